@@ -1,1 +1,4 @@
-pub mod Try
+pub mod Folds
+pub mod Kept
+pub mod Situations
+pub mod Streams

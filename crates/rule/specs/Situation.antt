@@ -29,14 +29,19 @@ abbrev pub leastBelow : ℕ → (ℕ → ℕ) → ℕ
 leastBelow zero f = 3
 leastBelow (suc n) f = min (leastBelow n f) (f n)
 
+-- what access i asks where it is still short, and what it is offered, for a row and a column of an access coming now
+abbrev pub needAt : Model → Model → Stream → Stream → Row → Column → ℕ → ℕ
+needAt up target input output r c i =
+    choose (isRow (kindAt input i) r) (excess (highest up r c (after i input)) (highest target r c (after i output))) 0
+
+abbrev pub lowAt : Model → Stream → Stream → Row → Column → ℕ → ℕ
+lowAt target input output r c i = choose (isRow (kindAt input i) r) (highest target r c (after i output)) 3
+
 abbrev pub need : Model → Model → Stream → Stream → Row → Column → ℕ
-need up target input output r c =
-    highestBelow (count input)
-    (λ (i : ℕ). choose (isRow (kindAt input i) r) (excess (highest up r c (after i input)) (highest target r c (after i output))) 0)
+need up target input output r c = highestBelow (count input) (needAt up target input output r c)
 
 abbrev pub low : Model → Stream → Stream → Row → Column → ℕ
-low target input output r c =
-    leastBelow (count input) (λ (i : ℕ). choose (isRow (kindAt input i) r) (highest target r c (after i output)) 3)
+low target input output r c = leastBelow (count input) (lowAt target input output r c)
 
 unfoldable pub situation : Model → Model → Stream → Stream → Situation
 situation up target input output = record { need = table (need up target input output); low = table (low target input output) }

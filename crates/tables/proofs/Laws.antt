@@ -3,16 +3,16 @@ use Prim.Native.Nat.{ℕ, zero, suc, _+_, _*_, _/_, _%_, _^_, _≤_, _<_, max, m
 use mathlib.Core.Path.{_≡_, refl, sym, ap, ap₂, _∙_}
 use mathlib.Core.Bool.{Bool, true, false}
 use native.Mathlib.Nat.{mod-lt, mod-eq-of-lt, zero-div}
-use native.Mathlib.Decide.{decLe}
 use native.Mathlib.Omega.{arith}
-use borrow.Author.Tests.{lt-ltb, le-ltb, eq-eqb, eqb-true}
-use lib.Dec.{ltb, eqb, lit<}
+use borrow.Author.Tests.{eq-eqb, eqb-true}
+use lib.Dec.{eqb, lit<}
 use Rattle.tables.specs.declared.table.Row.{Row}
 use Rattle.tables.specs.declared.table.Column.{Column}
 use Rattle.tables.specs.declared.table.Table.{Table}
 use Rattle.tables.specs.declared.table.Merge.{Merge}
 use Rattle.tables.specs.Cells.{digit, packed}
 use Rattle.tables.specs.Table.{rowNumber, columnNumber, cells, place, cell, choose, rowOf, columnOf, table, Clean, excess, merged, mergedTable, atLeast, singleTable}
+use Rattle.tables.proofs.Excess.{excess-none, excess-below, excess-lifts}
 use Rattle.tables.proofs.Packed.{packed-below, packed-cong, digit-packed, packed-own, single-packed}
 
 -- a cell is one of the four strengths
@@ -42,6 +42,13 @@ column-own Column.Ld = refl
 column-own Column.Cld = refl
 column-own Column.St = refl
 column-own Column.Cst = refl
+
+-- a row or a column is known by its number
+pub row-known : (a b : Row) → rowNumber a ≡ rowNumber b → a ≡ b
+row-known a b e = sym (row-own a) ∙ ap rowOf e ∙ row-own b
+
+pub column-known : (a b : Column) → columnNumber a ≡ columnNumber b → a ≡ b
+column-known a b e = sym (column-own a) ∙ ap columnOf e ∙ column-own b
 
 row-number : (n : ℕ) → n < 4 → rowNumber (rowOf n) ≡ n
 row-number zero h = refl
@@ -103,13 +110,6 @@ table-own t h =
 pub same-cells : (a b : Table) → Clean a → Clean b → ((r : Row) (c : Column) → cell a r c ≡ cell b r c) → a ≡ b
 same-cells a b ca cb h = sym (table-own a ca) ∙ table-cong (cell a) (cell b) h ∙ table-own b cb
 
-excess-below : (a b n : ℕ) → a < n → excess a b < n
-excess-below a b n h = under (ltb b a)
-  where
-    under : (t : Bool) → choose t a 0 < n
-    under true = h
-    under false = omega arith
-
 pub merged-below : (how : Merge) (a b : ℕ) → a < 4 → b < 4 → merged how a b < 4
 merged-below Merge.Higher a b la lb = omega arith
 merged-below Merge.Lower a b la lb = omega arith
@@ -121,6 +121,12 @@ unfolding mergedTable
 cell-merged how a b r c =
     cell-made (λ (r : Row) (c : Column). merged how (cell a r c) (cell b r c)) r c
     (merged-below how _ _ (cell-below a r c) (cell-below b r c))
+
+-- cells that are each merged from two tables make the merged table
+pub table-merged : (how : Merge) (a b : Table) (f : Row → Column → ℕ)
+    → ((r : Row) (c : Column) → f r c ≡ merged how (cell a r c) (cell b r c)) → table f ≡ mergedTable how a b
+unfolding mergedTable
+table-merged how a b f h = table-cong f (λ (r : Row) (c : Column). merged how (cell a r c) (cell b r c)) h
 
 -- the same by places: what a loop over the places packs
 pub merged-places : (how : Merge) (a b : Table)
@@ -135,19 +141,9 @@ pub merged-clean : (how : Merge) (a b : Table) → Clean (mergedTable how a b)
 unfolding mergedTable
 merged-clean how a b = table-clean _
 
--- what a cell's excess over another says of the two
-pub excess-none : (a b : ℕ) → a ≤ b → excess a b ≡ 0
-excess-none a b h = simp (le-ltb _ _ h)
-
-pub excess-some : (a b : ℕ) → b < a → excess a b ≡ a
-excess-some a b h = simp (lt-ltb _ _ h)
-
-pub none-over : (a b : ℕ) → excess a b ≡ 0 → a ≤ b
-none-over a b h = by (decLe a b)
-  where
-    by : Dec (a ≤ b) → a ≤ b
-    by (yes l) = l
-    by (no l) = absurd (omega (arith, h, excess-some a b (omega arith)))
+-- the number 0 has only `-`
+pub cell-none : (r : Row) (c : Column) → cell (record { packed = 0 }) r c ≡ 0
+cell-none r c = ap (λ (n : ℕ). n % 4) (zero-div (2 ^ (2 * place r c)))
 
 -- a table whose cells are all `-` is the number 0
 table-none : table (λ (r : Row) (c : Column). 0) ≡ record { packed = 0 }
@@ -158,10 +154,9 @@ table-none = refl
 pub at-least-cells : (a b : Table) → atLeast a b ≡ true → (r : Row) (c : Column) → cell b r c ≤ cell a r c
 unfolding atLeast
 at-least-cells a b h r c =
-    none-over _ _ (sym (cell-merged Merge.Exceeding b a r c) ∙ ap (λ (n : ℕ). digit n (place r c)) (eqb-true _ _ h) ∙ nought)
-  where
-    nought : digit 0 (place r c) ≡ 0
-    nought = ap (λ (n : ℕ). n % 4) (zero-div (2 ^ (2 * place r c)))
+    let e : excess (cell b r c) (cell a r c) ≡ 0 =
+        sym (cell-merged Merge.Exceeding b a r c) ∙ ap (λ (n : ℕ). digit n (place r c)) (eqb-true _ _ h) ∙ cell-none r c in
+    omega (arith, excess-lifts (cell b r c) (cell a r c) 0 (omega arith))
 
 pub cells-at-least : (a b : Table) → ((r : Row) (c : Column) → cell b r c ≤ cell a r c) → atLeast a b ≡ true
 unfolding atLeast mergedTable

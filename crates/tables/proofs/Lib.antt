@@ -1,2 +1,3 @@
-pub mod Packed
+pub mod Excess
 pub mod Laws
+pub mod Packed

@@ -27,7 +27,7 @@ pub struct Table {
 }
 
 // What a cell becomes where two tables are made one.
-enum Merge {
+pub enum Merge {
     Higher,
     Lower,
     Exceeding,

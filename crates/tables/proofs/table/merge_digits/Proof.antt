@@ -5,7 +5,7 @@ use Prim.Native.Nat.{ℕ, _<_}
 use native.Mathlib.Omega.{arith}
 use Rattle.tables.specs.declared.table.Merge.{Merge}
 use Rattle.tables.specs.Table.{merged}
-use Rattle.tables.proofs.Laws.{excess-some, excess-none}
+use Rattle.tables.proofs.Excess.{excess-some, excess-none}
 use Rattle.tables.proofs.table.merge_digits.Statement.{statement}
 use Rattle.tables.proofs.table.merge_digits.Tie as tie
 
