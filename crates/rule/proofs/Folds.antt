@@ -24,6 +24,10 @@ both-true false b e = absurd (not-both e refl)
 pub true-both : (a b : Bool) → a ≡ true → b ≡ true → choose a b false ≡ true
 true-both a b p q = ap₂ (λ (x y : Bool). choose x y false) p q
 
+either : (b : Bool) → choose b true true ≡ true
+either true = refl
+either false = refl
+
 -- two tests that pass together are equal
 pub same-test : (a b : Bool) → (a ≡ true → b ≡ true) → (b ≡ true → a ≡ true) → a ≡ b
 same-test true b f g = sym (f refl)
@@ -68,10 +72,19 @@ module _ {A : Type 0} (number : A → ℕ) (known : (a b : A) → number a ≡ n
       true-both (f x) (every f l)
       (h x (ap (λ (b : Bool). choose b true (oneOf (map number l) (number x))) (eq-eqb (number x) (number x) refl)))
       (at-every l (λ a m. h a (ap (choose (eqb (number x) (number a)) true) m ∙ either (eqb (number x) (number a)))))
-    where
-      either : (b : Bool) → choose b true true ≡ true
-      either true = refl
-      either false = refl
+
+-- where not every element passes, there is one that does not
+pub one-fails : {A : Type 0} (number : A → ℕ) (f : A → Bool) (l : List A) → every f l ≡ false
+    → (a : A) × (oneOf (map number l) (number a) ≡ true) × (f a ≡ false)
+one-fails number f [] e = absurd (not-both refl e)
+one-fails number f (x ∷ l) e = at (f x) refl (one-fails number f l)
+  where
+    at : (b : Bool) → f x ≡ b → (every f l ≡ false → (a : _) × (oneOf (map number l) (number a) ≡ true) × (f a ≡ false))
+        → (a : _) × (oneOf (map number (x ∷ l)) (number a) ≡ true) × (f a ≡ false)
+    at true p rest =
+        let w = rest (sym (ap (λ (b : Bool). choose b (every f l) false) p) ∙ e) in
+        (w .0, ap (choose (eqb (number x) (number (w .0))) true) (w .1) ∙ either (eqb (number x) (number (w .0))), w .2)
+    at false p rest = (x, ap (λ (b : Bool). choose b true (oneOf (map number l) (number x))) (eq-eqb (number x) (number x) refl), p)
 
 -- strengths
 

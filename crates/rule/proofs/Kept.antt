@@ -2,7 +2,7 @@
 use Prim.Native.Nat.{ℕ, _≤_, _<_}
 use mathlib.Core.Path.{_≡_}
 use mathlib.Core.Bool.{Bool, true, false}
-use borrow.Author.Tests.{le-leb, leb-true}
+use borrow.Author.Tests.{le-leb, leb-true, leb-false}
 use lib.Dec.{leb}
 use Rattle.tables.specs.declared.table.Row.{Row}
 use Rattle.tables.specs.declared.table.Column.{Column}
@@ -11,7 +11,7 @@ use Rattle.tables.proofs.Laws.{row-known, column-known}
 use Rattle.rule.specs.declared.operation.Kind.{Kind}
 use Rattle.rule.specs.Stream.{Stream, count, kindAt, after}
 use Rattle.rule.specs.Pairs.{Model, rows, columns, isRow, isColumn, highest, every, kept, settled}
-use Rattle.rule.proofs.Folds.{every-at, at-every, every-below, below-every}
+use Rattle.rule.proofs.Folds.{every-at, at-every, every-below, below-every, some-fails, one-fails}
 
 module _ (up target : Model) where
   -- asked is at most offered, in each row of a and each column of b, where x stands between in the input and y in the output
@@ -31,6 +31,14 @@ module _ (up target : Model) where
       (λ r hr. at-every columnNumber column-known (λ (c : Column). leb (highest up r c x) (highest target r c y)) (columns b)
       (λ c hc. le-leb _ _ (h r c hr hc)))
 
+  -- a pair that fails the test is short somewhere
+  short-somewhere : (a b : Kind) (x y : Stream) → kept up target a b x y ≡ false
+      → (r : Row) × (c : Column) × (isRow a r ≡ true) × (isColumn b c ≡ true) × (highest target r c y < highest up r c x)
+  short-somewhere a b x y e =
+      let v = one-fails rowNumber (λ (r : Row). every (λ (c : Column). leb (highest up r c x) (highest target r c y)) (columns b)) (rows a) e in
+      let w = one-fails columnNumber (λ (c : Column). leb (highest up (v .0) c x) (highest target (v .0) c y)) (columns b) (v .2) in
+      (v .0, w .0, v .1, w .1, leb-false _ _ (w .2))
+
   module _ (input output : Stream) (k : Kind) where
     -- every pair that ends at an access of kind k coming now is kept
     abbrev pub Settled : Type 0
@@ -43,3 +51,13 @@ module _ (up target : Model) where
     pub means-settled : Settled → settled up target input output k ≡ true
     unfolding settled
     means-settled h = below-every (count input) _ (λ i l. means-kept (kindAt input i) k (after i input) (after i output) (h i l))
+
+    -- a pair that is short, where not all are kept
+    pub some-short : settled up target input output k ≡ false
+        → (i : ℕ) × (i < count input) × (r : Row) × (c : Column) × (isRow (kindAt input i) r ≡ true) × (isColumn k c ≡ true)
+        × (highest target r c (after i output) < highest up r c (after i input))
+    unfolding settled
+    some-short e =
+        let v = some-fails (count input) _ e in
+        let w = short-somewhere (kindAt input (v .0)) k (after (v .0) input) (after (v .0) output) (v .2) in
+        (v .0, v .1, w .0, w .1, w .2, w .3, w .4)

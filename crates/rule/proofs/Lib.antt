@@ -1,4 +1,9 @@
+pub mod Choices
+pub mod EveryPair
+pub mod Fewest
 pub mod Folds
 pub mod Kept
+pub mod Reach
 pub mod Situations
+pub mod Stands
 pub mod Streams

@@ -23,6 +23,7 @@ use Rattle.rule.specs.Situation.{highestBelow, leastBelow, needAt, lowAt
 use Rattle.rule.specs.Rule.{pick, rule, onward, behind, Ran, done, refused}
 use Rattle.rule.proofs.Streams.{same-access, same-fence, count-fence, count-access, kind-append, kind-next, after-append, after-next, highest-access, highest-fence, highest-below}
 use Rattle.rule.proofs.Folds.{highest-cong, least-cong, highest-at-most, least-below, highest-both, choose-higher, excess-over-least, excess-of-highest, least-raised, same-test, highest-from}
+use Rattle.rule.proofs.Choices.{goes-on, goes-alike}
 use Rattle.rule.proofs.Kept.{settled-means, means-settled}
 
 ap₃ : {A B C D : Type 0} (f : A → B → C → D) {a a′ : A} {b b′ : B} {c c′ : C} → a ≡ a′ → b ≡ b′ → c ≡ c′ → f a b c ≡ f a′ b′ c′
@@ -255,15 +256,6 @@ module _ (up target : Model) (input output : Stream) (same : accesses output ≡
   chosen-rule way k =
       ap₂ (λ (b : Bool) (f : ℕ → Bool). choose b Choice.Nothing (pick way f (length (target .fences))))
       (settled-none k) (fun-ext (settled-fence k))
-
--- how a run goes on after a choice
-abbrev goes-on : Ran → (ℕ → Ran) → Choice → Ran
-goes-on plain fenced c = elim c as (λ x. Ran) [ Choice.Nothing ↦ plain | Choice.Fence g ↦ fenced g | Choice.Refused ↦ refused 0 ]
-
-goes-alike : (p q : Ran) (f g : ℕ → Ran) → p ≡ q → ((n : ℕ) → f n ≡ g n) → (c : Choice) → goes-on p f c ≡ goes-on q g c
-goes-alike p q f g e h Choice.Nothing = e
-goes-alike p q f g e h (Choice.Fence n) = h n
-goes-alike p q f g e h Choice.Refused = refl
 
 -- the run by situations is the run by the rule
 pub by-situations : (way : Way) (up target : Model) (input output : Stream) → accesses output ≡ accesses input → (s : Stream)
