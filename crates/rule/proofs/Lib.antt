@@ -1,4 +1,5 @@
 pub mod Choices
+pub mod Continued
 pub mod EveryPair
 pub mod Fewest
 pub mod Folds
