@@ -8,3 +8,4 @@ pub mod Reach
 pub mod Situations
 pub mod Stands
 pub mod Streams
+pub mod Theorems

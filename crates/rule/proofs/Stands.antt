@@ -28,11 +28,11 @@ module _ (way : Way) (up target : Model) where
       (put : Stream) × (before j output ≡ through j output ++ put) × Puts (rule way up target (before j input) (through j output) (kindAt input j)) put
 
   -- nothing stands behind the last access of an output
-  ends : {input output : Stream} → Reach way up target input output → through (count output) output ≡ output
-  ends fresh = refl
-  ends (passed h n) = ends h
-  ends (plain {output = o} h k e) = ap (λ (n : ℕ). through n (o ++ access k)) (count-access o k) ∙ through-next o k
-  ends (fenced {output = o} h k g e) = ap (λ (n : ℕ). through n (o ++ fence g ++ access k)) (count-access (o ++ fence g) k) ∙ through-next (o ++ fence g) k
+  pub reach-ends : {input output : Stream} → Reach way up target input output → through (count output) output ≡ output
+  reach-ends fresh = refl
+  reach-ends (passed h n) = reach-ends h
+  reach-ends (plain {output = o} h k e) = ap (λ (n : ℕ). through n (o ++ access k)) (count-access o k) ∙ through-next o k
+  reach-ends (fenced {output = o} h k g e) = ap (λ (n : ℕ). through n (o ++ fence g ++ access k)) (count-access (o ++ fence g) k) ∙ through-next (o ++ fence g) k
 
   same-rule : {i i′ o o′ : Stream} {k k′ : Kind} → i ≡ i′ → o ≡ o′ → k ≡ k′ → rule way up target i o k ≡ rule way up target i′ o′ k′
   same-rule p q r = λ d. rule way up target (p d) (q d) (r d)
@@ -78,7 +78,7 @@ module _ (way : Way) (up target : Model) where
       at lower (yes m) = stands-more x y (access k) (access k) j same m (lower m)
       at lower (no m) =
           subst (λ (o : Stream). Stands (x ++ access k) (o ++ access k) j) (append-nil y)
-          (stands-last x y [] k j same (ap accesses (append-nil y) ∙ same) (ends h) (omega (arith, count-access x k))
+          (stands-last x y [] k j same (ap accesses (append-nil y) ∙ same) (reach-ends h) (omega (arith, count-access x k))
           (subst (λ (c : Choice). Puts c []) (sym e) refl))
   reach-stands (fenced {input = x} {output = y} h k g e) j l = at (λ m. reach-stands h j m) (decLt j (count x))
     where
@@ -89,5 +89,5 @@ module _ (way : Way) (up target : Model) where
           subst (λ (o : Stream). Stands (x ++ access k) o j) (sym (append-assoc y (fence g) (access k)))
           (stands-more x y (access k) (fence g ++ access k) j same m (lower m))
       at lower (no m) =
-          stands-last x y (fence g) k j same (same-fence x y g same) (ends h) (omega (arith, count-access x k))
+          stands-last x y (fence g) k j same (same-fence x y g same) (reach-ends h) (omega (arith, count-access x k))
           (subst (λ (c : Choice). Puts c (fence g)) (sym e) refl)

@@ -51,6 +51,10 @@ situation up target input output = record { need = table (need up target input o
 abbrev pub none : Table
 none = record { packed = 0 }
 
+-- "The fresh shim has seen no access": no need, and S offered
+abbrev pub fresh : Situation
+fresh = record { need = none; low = record { packed = 0xffff_ffff } }
+
 -- S in the rows of a kind and `-` elsewhere; `-` in its rows and S elsewhere; S in its columns and `-` elsewhere
 unfoldable pub inRows : Kind → Table
 inRows k = table (λ (r : Row) (c : Column). choose (isRow k r) 3 0)
