@@ -20,10 +20,16 @@ byteIs b =
     (choose (within 65 70 b) (Byte.Is (Operation.Fence (b - 65 + 10)))
     Byte.Nothing)))))
 
--- the byte of an operation; a fence number above 15 has none, and gets 0, which is no operation
-unfoldable pub written : Operation → ℕ
-written (Operation.Access Kind.Ld) = 108
-written (Operation.Access Kind.Cld) = 76
-written (Operation.Access Kind.St) = 115
-written (Operation.Access Kind.Cst) = 83
-written (Operation.Fence n) = choose (ltb n 10) (48 + n) (choose (ltb n 16) (55 + n) 0)
+abbrev pub accessByte : Kind → ℕ
+accessByte Kind.Ld = 108
+accessByte Kind.Cld = 76
+accessByte Kind.St = 115
+accessByte Kind.Cst = 83
+
+-- a fence number above 15 has no byte, and gets 0, which is no operation
+abbrev pub fenceByte : ℕ → ℕ
+fenceByte n = choose (ltb n 10) (48 + n) (choose (ltb n 16) (65 + (n - 10)) 0)
+
+abbrev pub written : Operation → ℕ
+written (Operation.Access k) = accessByte k
+written (Operation.Fence n) = fenceByte n
