@@ -1,28 +1,25 @@
 -- Which fence a way takes, and when it takes none. Assumes nothing.
-use Prim.Native.Nat.{ℕ, zero, suc, _+_, _≤_, _<_}
+use Prim.Native.Nat.{ℕ, zero, suc, _+_, _-_, _≤_, _<_}
 use mathlib.Core.Path.{_≡_, refl, sym, ap, _∙_}
 use mathlib.Core.Bool.{Bool, true, false}
-use mathlib.Core.List.{_++_}
+use mathlib.Core.List.{List, _++_}
 use native.Mathlib.Decide.{decLt}
 use native.Mathlib.Omega.{arith}
 use lib.ListN.{length}
-use Rattle.tables.specs.Table.{choose}
+use Rattle.tables.specs.declared.table.Table.{Table}
+use Rattle.tables.specs.Table.{choose, atLeast}
 use Rattle.rule.specs.declared.operation.Kind.{Kind}
 use Rattle.rule.specs.declared.way.Way.{Way}
 use Rattle.rule.specs.declared.way.Choice.{Choice}
 use Rattle.rule.specs.Stream.{Stream, fence}
-use Rattle.rule.specs.Pairs.{Model, settled}
+use Rattle.rule.specs.Pairs.{Model, tableAt, settled}
 use Rattle.rule.specs.Rule.{lowest, last, pick, rule, Ran, done, refused}
+use Rattle.rule.specs.Situation.{none, choiceOf}
 use Rattle.rule.proofs.Folds.{not-both}
 
 -- how a run goes on after a choice
 abbrev pub goes-on : Ran → (ℕ → Ran) → Choice → Ran
 goes-on plain fenced c = elim c as (λ x. Ran) [ Choice.Nothing ↦ plain | Choice.Fence g ↦ fenced g | Choice.Refused ↦ refused 0 ]
-
-pub goes-alike : (p q : Ran) (f g : ℕ → Ran) → p ≡ q → ((n : ℕ) → f n ≡ g n) → (c : Choice) → goes-on p f c ≡ goes-on q g c
-goes-alike p q f g e h Choice.Nothing = e
-goes-alike p q f g e h (Choice.Fence n) = h n
-goes-alike p q f g e h Choice.Refused = refl
 
 -- "the lowest-numbered target fence that leaves none of these pairs short", "the highest-numbered fence, if that leaves none short"
 abbrev pub Takes : Way → (ℕ → Bool) → ℕ → ℕ → Type 0
@@ -37,7 +34,52 @@ NoneWillDo Way.Full f n = (g : ℕ) → suc g ≡ n → f g ≡ false
 pub differ : {A : Type 0} → _≡_ {A = ℕ} 0 1 → A
 differ e = absurd (omega arith)
 
+-- which of these fences will do for what is pending, and what a test of one says of it
+abbrev pub serves : List ℕ → Table → ℕ → Bool
+serves fences pending g = atLeast (tableAt fences g) pending
+
+pub told : (pending : Table) {t u : Table} {b d : Bool} → t ≡ u → b ≡ atLeast t pending → b ≡ d → atLeast u pending ≡ d
+told pending e f g = sym (f ∙ ap (λ (x : Table). atLeast x pending) e) ∙ g
+
+module _ (way : Way) (fences : List ℕ) (pending : Table) where
+  pub choice-nothing : atLeast none pending ≡ true → choiceOf way fences pending ≡ Choice.Nothing
+  unfolding choiceOf
+  choice-nothing e = ap (λ (b : Bool). choose b Choice.Nothing (pick way (serves fences pending) (length fences))) e
+
+  pub choice-pick : atLeast none pending ≡ false → choiceOf way fences pending ≡ pick way (serves fences pending) (length fences)
+  unfolding choiceOf
+  choice-pick e = ap (λ (b : Bool). choose b Choice.Nothing (pick way (serves fences pending) (length fences))) e
+
 module _ (f : ℕ → Bool) where
+  -- the search for the lowest, one fence at a time
+  pub lowest-found : (i n : ℕ) → i < n → f i ≡ true → lowest f i (n - i) ≡ Choice.Fence i
+  lowest-found i n l p =
+      let e : n - i ≡ suc (n - (i + 1)) = omega arith in
+      ap (lowest f i) e ∙ ap (λ (b : Bool). choose b (Choice.Fence i) (lowest f (suc i) (n - (i + 1)))) p
+
+  pub lowest-next : (i n : ℕ) → i < n → f i ≡ false → lowest f i (n - i) ≡ lowest f (i + 1) (n - (i + 1))
+  lowest-next i n l p =
+      let e : n - i ≡ suc (n - (i + 1)) = omega arith in
+      let m : suc i ≡ i + 1 = omega arith in
+      ap (lowest f i) e ∙ ap (λ (b : Bool). choose b (Choice.Fence i) (lowest f (suc i) (n - (i + 1)))) p
+      ∙ ap (λ (j : ℕ). lowest f j (n - (i + 1))) m
+
+  pub lowest-all : (n : ℕ) → lowest f 0 n ≡ lowest f 0 (n - 0)
+  lowest-all n =
+      let e : n ≡ n - 0 = omega arith in
+      ap (lowest f 0) e
+
+  pub lowest-over : (i n : ℕ) → n ≤ i → lowest f i (n - i) ≡ Choice.Refused
+  lowest-over i n l =
+      let e : n - i ≡ 0 = omega arith in
+      ap (lowest f i) e
+
+  -- the last of some fences
+  pub last-of : (n : ℕ) → 0 < n → (b : Bool) → f (n - 1) ≡ b → last f n ≡ choose b (Choice.Fence (n - 1)) Choice.Refused
+  last-of n l b p =
+      let e : n ≡ suc (n - 1) = omega arith in
+      ap (last f) e ∙ ap (λ (b : Bool). choose b (Choice.Fence (n - 1)) Choice.Refused) p
+
   -- what the search for the lowest finds from i on
   lowest-takes : (i n g : ℕ) → lowest f i n ≡ Choice.Fence g → (i ≤ g) × (g < i + n) × (f g ≡ true) × ((h : ℕ) → i ≤ h → h < g → f h ≡ false)
   lowest-takes i zero g e = differ (cc)

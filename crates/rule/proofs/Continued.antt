@@ -49,7 +49,7 @@ module _ (way : Way) (up target : Model) where
   next op put s x input output output′ grows h =
       ap (behind put) h
       ∙ behind-then put (length s) (go (input ++ op ∷ []) output′ s) _ _
-        (λ out. ap₂ (λ (i o : Stream). go i o x) (append-assoc input (op ∷ []) s) (grows out))
+      (λ out. ap₂ (λ (i o : Stream). go i o x) (append-assoc input (op ∷ []) s) (grows out))
 
   -- the run of a stream and of what comes behind it is the run of the first part, and then that of the second from there
   pub continued : (s x input output : Stream)
@@ -64,13 +64,14 @@ module _ (way : Way) (up target : Model) where
       at _ (behind (access k) (go (input ++ access k) (output ++ access k) s)) _
       (λ (g : ℕ). behind (fence g ++ access k) (go (input ++ access k) (output ++ (fence g ++ access k)) s))
       (next (Operation.Access k) (access k) s x input output (output ++ access k) (append-assoc output (access k))
-        (continued s x (input ++ access k) (output ++ access k)))
+      (continued s x (input ++ access k) (output ++ access k)))
       (λ g. next (Operation.Access k) (fence g ++ access k) s x input output (output ++ (fence g ++ access k)) (append-assoc output (fence g ++ access k))
-        (continued s x (input ++ access k) (output ++ (fence g ++ access k))))
+      (continued s x (input ++ access k) (output ++ (fence g ++ access k))))
       (rule way up target input output k)
     where
       rest : Stream → Ran
       rest out = go (input ++ Operation.Access k ∷ s) (output ++ out) x
+
       at : (p q : Ran) (f g : ℕ → Ran) → p ≡ then (suc (length s)) q rest → ((n : ℕ) → f n ≡ then (suc (length s)) (g n) rest)
           → (c : Choice) → goes-on p f c ≡ then (suc (length s)) (goes-on q g c) rest
       at p q f g e h Choice.Nothing = e
@@ -95,7 +96,7 @@ module _ (way : Way) (up target : Model) where
   stops input output k s e =
       ap
       (goes-on (behind (access k) (go (input ++ access k) (output ++ access k) s))
-        (λ (g : ℕ). behind (fence g ++ access k) (go (input ++ access k) (output ++ (fence g ++ access k)) s)))
+      (λ (g : ℕ). behind (fence g ++ access k) (go (input ++ access k) (output ++ (fence g ++ access k)) s)))
       e
 
   pub refusal-refused : (input output s : Stream) (place : ℕ) → Refusal input output s place → onward way up target input output s ≡ refused place
@@ -103,7 +104,7 @@ module _ (way : Way) (up target : Model) where
       ap (onward way up target input output) (f .split)
       ∙ continued (f .first) (Operation.Access (f .kind) ∷ f .rest) input output
       ∙ ap (λ (x : Ran). then (length (f .first)) x (λ (out : Stream). onward way up target (input ++ f .first) (output ++ out) (Operation.Access (f .kind) ∷ f .rest)))
-        (f .accepted)
+      (f .accepted)
       ∙ ap (follows (length (f .first)) (f .out)) (stops (input ++ f .first) (output ++ f .out) (f .kind) (f .rest) (f .stuck))
       ∙ ap refused (add-zero (length (f .first)) ∙ f .index)
 
@@ -125,7 +126,7 @@ module _ (way : Way) (up target : Model) where
         index = ap suc (f .index) ∙ e;
         accepted = goes (f .out) (f .first) (f .accepted);
         stuck =
-          ap₂ (λ (i o : Stream). rule way up target i o (f .kind)) (sym (append-assoc input (op ∷ []) (f .first))) (sym (grows (f .out))) ∙ f .stuck
+            ap₂ (λ (i o : Stream). rule way up target i o (f .kind)) (sym (append-assoc input (op ∷ []) (f .first))) (sym (grows (f .out))) ∙ f .stuck;
       }
 
   pub refused-refusal : (s input output : Stream) (place : ℕ) → onward way up target input output s ≡ refused place → Refusal input output s place
@@ -141,11 +142,13 @@ module _ (way : Way) (up target : Model) where
     where
       plainly : Stream → Ran
       plainly x = behind (access k) (go (input ++ access k) (output ++ access k) x)
+
       with-fence : Stream → ℕ → Ran
       with-fence x g = behind (fence g ++ access k) (go (input ++ access k) (output ++ (fence g ++ access k)) x)
+
       at : ((q : ℕ) → go (input ++ access k) (output ++ access k) s ≡ refused q → Refusal (input ++ access k) (output ++ access k) s q)
           → ((g q : ℕ) → go (input ++ access k) (output ++ (fence g ++ access k)) s ≡ refused q
-              → Refusal (input ++ access k) (output ++ (fence g ++ access k)) s q)
+          → Refusal (input ++ access k) (output ++ (fence g ++ access k)) s q)
           → (c : Choice) → rule way up target input output k ≡ c → Refusal input output (Operation.Access k ∷ s) p
       at a b Choice.Nothing r =
           let w = behind-refused (access k) p (go (input ++ access k) (output ++ access k) s) (sym (ap (goes-on (plainly s) (with-fence s)) r) ∙ e) in
@@ -153,7 +156,7 @@ module _ (way : Way) (up target : Model) where
           (λ out x h. ap (goes-on (plainly x) (with-fence x)) r ∙ ap (behind (access k)) h) (a (w .0) (w .1))
       at a b (Choice.Fence g) r =
           let w = behind-refused (fence g ++ access k) p (go (input ++ access k) (output ++ (fence g ++ access k)) s)
-              (sym (ap (goes-on (plainly s) (with-fence s)) r) ∙ e) in
+          (sym (ap (goes-on (plainly s) (with-fence s)) r) ∙ e) in
           later (Operation.Access k) (fence g ++ access k) s input output (output ++ (fence g ++ access k)) p (w .0)
           (append-assoc output (fence g ++ access k)) (w .2)
           (λ out x h. ap (goes-on (plainly x) (with-fence x)) r ∙ ap (behind (fence g ++ access k)) h) (b g (w .0) (w .1))
@@ -167,5 +170,5 @@ module _ (way : Way) (up target : Model) where
             split = refl;
             index = (cc);
             accepted = refl;
-            stuck = ap₂ (λ (i o : Stream). rule way up target i o k) (append-nil input) (append-nil output) ∙ r
+            stuck = ap₂ (λ (i o : Stream). rule way up target i o k) (append-nil input) (append-nil output) ∙ r;
           }

@@ -64,12 +64,12 @@ module _ (up target : Model) where
           let e : j ≡ count input = omega (arith, count-access input k) in
           let f : j ≡ count output = omega (arith, ap length same) in
           let x : between i j (input ++ access k) ≡ after i input =
-              ap (λ (n : ℕ). between i n (input ++ access k)) e ∙ ap (after i) (before-next input k []) in
+          ap (λ (n : ℕ). between i n (input ++ access k)) e ∙ ap (after i) (before-next input k []) in
           let y : between i j (output ++ access k) ≡ after i output =
-              ap (λ (n : ℕ). between i n (output ++ access k)) f ∙ ap (after i) (before-next output k []) in
+          ap (λ (n : ℕ). between i n (output ++ access k)) f ∙ ap (after i) (before-next output k []) in
           let t = ends i (omega arith) r c
-              (sym (ap (λ (a : Kind). isRow a r) (kind-append input (access k) i (omega arith))) ∙ hr)
-              (sym (ap (λ (n : ℕ). isColumn (kindAt (input ++ access k) n) c) e ∙ ap (λ (b : Kind). isColumn b c) (kind-next input k [])) ∙ hc) in
+          (sym (ap (λ (a : Kind). isRow a r) (kind-append input (access k) i (omega arith))) ∙ hr)
+          (sym (ap (λ (n : ℕ). isColumn (kindAt (input ++ access k) n) c) e ∙ ap (λ (b : Kind). isColumn b c) (kind-next input k [])) ∙ hc) in
           omega (arith, t, ap (highest up r c) x, ap (highest target r c) y)
 
   module _ (way : Way) where

@@ -52,8 +52,11 @@ module _ (up target : Model) where
   still-enough : {input output : Stream} {from : ℕ} → Spent input output from → (x other : Stream) → accesses other ≡ accesses (input ++ x)
       → Keeps up target (input ++ x) other → fences output ≤ fences (before from other)
   still-enough {input} {output} {from} sp x other e h =
-      omega (arith, sp .enough (before (count input) other) (restricted input x other e) (keeps-part input x other h),
-      ap fences (before-before from (count input) other (sp .within)))
+      omega (
+        arith,
+        sp .enough (before (count input) other) (restricted input x other e) (keeps-part input x other h),
+        ap fences (before-before from (count input) other (sp .within)),
+      )
 
   -- the last fence is still offered after one access more
   still-offered : (output : Stream) (k : Kind) (i : ℕ) → i < count output → (r : Row) (c : Column)
@@ -65,7 +68,7 @@ module _ (up target : Model) where
       record {
         within = omega (arith, sp .within, count-fence input n);
         enough = λ other e h. still-enough sp (fence n) other e h;
-        offers-last = sp .offers-last
+        offers-last = sp .offers-last;
       }
 
   spent-plain : {input output : Stream} {from : ℕ} → Spent input output from → (k : Kind) → accesses output ≡ accesses input
@@ -75,7 +78,7 @@ module _ (up target : Model) where
         within = omega (arith, sp .within, count-access input k);
         enough = λ other e h. omega (arith, still-enough sp (access k) other e h, fences-append output (access k));
         offers-last = λ i l g m r c.
-          omega (arith, sp .offers-last i l g m r c, still-offered output k i (omega (arith, sp .within, ap length same)) r c)
+            omega (arith, sp .offers-last i l g m r c, still-offered output k i (omega (arith, sp .within, ap length same)) r c);
       }
 
   -- a fence of the full way: the pair for which it was put lies behind all fences put so far, and every placing has one more fence there
@@ -85,33 +88,45 @@ module _ (up target : Model) where
       record {
         within = omega (arith, count-access input k);
         enough = more;
-        offers-last = offered-now
+        offers-last = offered-now;
       }
     where
       n : ℕ
       n = count input
+
       short : (i : ℕ) × (i < count input) × (r : Row) × (c : Column) × (isRow (kindAt input i) r ≡ true) × (isColumn k c ≡ true)
           × (highest target r c (after i output) < highest up r c (after i input))
       short = some-short up target input output k (rule-fence Way.Full up target input output k g e .0)
+
       i : ℕ
       i = short .0
+
       r : Row
       r = short .2
+
       c : Column
       c = short .3
+
       put : (i : ℕ) → i < count input → (r : Row) (c : Column)
           → highest target r c (after i (output ++ fence g)) ≡ max (highest target r c (after i output)) (cell (fenceTable target g) r c)
       put i l r c = ap (highest target r c) (after-append i output (fence g) (omega (arith, ap length same))) ∙ highest-fence target r c (after i output) g
+
       settles : highest up r c (after i input) ≤ cell (fenceTable target g) r c
       settles =
-          omega (arith, short .6, put i (short .1) r c,
-          settled-means up target input (output ++ fence g) k (fence-will-do Way.Full up target input output k g e) i (short .1) r c (short .4) (short .5))
+          omega (
+            arith,
+            short .6,
+            put i (short .1) r c,
+            settled-means up target input (output ++ fence g) k (fence-will-do Way.Full up target input output k g e) i (short .1) r c (short .4) (short .5),
+          )
+
       apart : from ≤ i
       apart = at (decLt i from)
         where
           at : Dec (i < from) → from ≤ i
           at (yes l) = absurd (omega (arith, sp .offers-last i l g (rule-fence Way.Full up target input output k g e .1 .0) r c, settles, short .6))
           at (no l) = omega arith
+
       more : (other : Stream) → accesses other ≡ accesses (input ++ access k) → Keeps up target (input ++ access k) other
           → fences (output ++ fence g ++ access k) ≤ fences (before n other)
       more other s h =
@@ -119,20 +134,32 @@ module _ (up target : Model) where
           let at-n : kindAt (input ++ access k) n ≡ k = kind-next input k [] in
           let x : between i n (input ++ access k) ≡ after i input = ap (after i) (before-next input k []) in
           let l : highest up r c (between i n (input ++ access k)) ≤ highest target r c (between i n other) =
-              h i n (short .1) (omega (arith, count-access input k)) r c
-              (ap (λ (a : Kind). isRow a r) at-i ∙ short .4) (ap (λ (b : Kind). isColumn b c) at-n ∙ short .5) in
+          h i n (short .1) (omega (arith, count-access input k)) r c
+          (ap (λ (a : Kind). isRow a r) at-i ∙ short .4) (ap (λ (b : Kind). isColumn b c) at-n ∙ short .5) in
           let one : 0 < fences (between i n other) =
-              fence-stands target r c (between i n other)
-              (omega (arith, l, ap (highest up r c) x, short .6, default-offered target r c (after i output))) in
-          omega (arith, one, still-enough sp (access k) other s h, fences-before from i other apart,
-          fences-split i (before n other), ap fences (before-before i n other (omega (arith, short .1))),
-          fences-append (output ++ fence g) (access k), fences-append output (fence g))
+          fence-stands target r c (between i n other)
+          (omega (arith, l, ap (highest up r c) x, short .6, default-offered target r c (after i output))) in
+          omega (
+            arith,
+            one,
+            still-enough sp (access k) other s h,
+            fences-before from i other apart,
+            fences-split i (before n other),
+            ap fences (before-before i n other (omega (arith, short .1))),
+            fences-append (output ++ fence g) (access k),
+            fences-append output (fence g),
+          )
+
       offered-now : (i : ℕ) → i < n → (last : ℕ) → suc last ≡ length (target .fences) → (r : Row) (c : Column)
           → cell (fenceTable target last) r c ≤ highest target r c (after i (output ++ fence g ++ access k))
       offered-now i l last m r c =
           let same-last : last ≡ g = omega (arith, m, rule-fence Way.Full up target input output k g e .1 .0) in
-          omega (arith, ap (λ (h : ℕ). cell (fenceTable target h) r c) same-last, put i l r c,
-          still-offered (output ++ fence g) k i (omega (arith, count-append output (fence g), ap length same)) r c)
+          omega (
+            arith,
+            ap (λ (h : ℕ). cell (fenceTable target h) r c) same-last,
+            put i l r c,
+            still-offered (output ++ fence g) k i (omega (arith, count-append output (fence g), ap length same)) r c,
+          )
 
   reach-spent : {input output : Stream} → Reach Way.Full up target input output → (from : ℕ) × Spent input output from
   reach-spent fresh =

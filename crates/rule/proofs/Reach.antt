@@ -50,12 +50,14 @@ module _ (way : Way) (up target : Model) where
     where
       nothing : Ran
       nothing = behind (access k) (onward way up target (input ++ access k) (output ++ access k) s)
+
       with-fence : ℕ → Ran
       with-fence g = behind (fence g ++ access k) (onward way up target (input ++ access k) (output ++ (fence g ++ access k)) s)
+
       at : (rule way up target input output k ≡ Choice.Nothing → (out : Stream)
-              → onward way up target (input ++ access k) (output ++ access k) s ≡ done out → Reach (input ++ access k ++ s) (output ++ access k ++ out))
+          → onward way up target (input ++ access k) (output ++ access k) s ≡ done out → Reach (input ++ access k ++ s) (output ++ access k ++ out))
           → ((g : ℕ) → rule way up target input output k ≡ Choice.Fence g → (out : Stream)
-              → onward way up target (input ++ access k) (output ++ fence g ++ access k) s ≡ done out → Reach (input ++ access k ++ s) (output ++ fence g ++ access k ++ out))
+          → onward way up target (input ++ access k) (output ++ fence g ++ access k) s ≡ done out → Reach (input ++ access k ++ s) (output ++ fence g ++ access k ++ out))
           → (c : Choice) → rule way up target input output k ≡ c → Reach (input ++ Operation.Access k ∷ s) (output ++ out)
       at p f Choice.Nothing r =
           let w = behind-done (access k) out _ (sym (ap (goes-on nothing with-fence) r) ∙ e) in

@@ -57,10 +57,10 @@ module _ (way : Way) (up target : Model) where
       let f : j ≡ count (output ++ put) = omega (arith, ap length put-same) in
       let g : j ≡ count output = omega (arith, ap length same) in
       let b : before j (output ++ put ++ access k) ≡ output ++ put =
-          ap (λ (n : ℕ). before n (output ++ put ++ access k)) f ∙ before-next (output ++ put) k [] in
+      ap (λ (n : ℕ). before n (output ++ put ++ access k)) f ∙ before-next (output ++ put) k [] in
       let t : through j (output ++ put ++ access k) ≡ output =
-          ap (through j) (append-assoc output put (access k)) ∙ through-append j output (put ++ access k) (omega arith)
-          ∙ ap (λ (n : ℕ). through n output) g ∙ whole in
+      ap (through j) (append-assoc output put (access k)) ∙ through-append j output (put ++ access k) (omega arith)
+      ∙ ap (λ (n : ℕ). through n output) g ∙ whole in
       let i : before j (input ++ access k) ≡ input = ap (λ (n : ℕ). before n (input ++ access k)) e ∙ before-next input k [] in
       let n : kindAt (input ++ access k) j ≡ k = ap (kindAt (input ++ access k)) e ∙ kind-next input k [] in
       (put, b ∙ ap (λ (x : Stream). x ++ put) (sym t), subst (λ (c : Choice). Puts c put) (same-rule (sym i) (sym t) (sym n)) p)
@@ -74,6 +74,7 @@ module _ (way : Way) (up target : Model) where
     where
       same : accesses y ≡ accesses x
       same = reach-same way up target h
+
       at : (j < count x → Stands x y j) → Dec (j < count x) → Stands (x ++ access k) (y ++ access k) j
       at lower (yes m) = stands-more x y (access k) (access k) j same m (lower m)
       at lower (no m) =
@@ -84,6 +85,7 @@ module _ (way : Way) (up target : Model) where
     where
       same : accesses y ≡ accesses x
       same = reach-same way up target h
+
       at : (j < count x → Stands x y j) → Dec (j < count x) → Stands (x ++ access k) (y ++ fence g ++ access k) j
       at lower (yes m) =
           subst (λ (o : Stream). Stands (x ++ access k) o j) (sym (append-assoc y (fence g) (access k)))

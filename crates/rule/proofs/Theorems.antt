@@ -47,29 +47,35 @@ module _ (way : Way) (up target : Model) (input output : Stream) (accepted : run
   pub fence-exactly-when : (j : ℕ) → j < count input
       → (Settled up target (before j input) (through j output) (kindAt input j) → before j output ≡ through j output)
       × ((Settled up target (before j input) (through j output) (kindAt input j) → ⊥)
-          → (g : ℕ) × (before j output ≡ through j output ++ fence g)
-          × Takes way (λ (h : ℕ). settled up target (before j input) (through j output ++ fence h) (kindAt input j)) (length (target .fences)) g)
+      → (g : ℕ) × (before j output ≡ through j output ++ fence g)
+      × Takes way (λ (h : ℕ). settled up target (before j input) (through j output ++ fence h) (kindAt input j)) (length (target .fences)) g)
   fence-exactly-when j l = at (rule way up target i o k) refl (reach-stands way up target reached j l)
     where
       i : Stream
       i = before j input
+
       o : Stream
       o = through j output
+
       k : Kind
       k = kindAt input j
+
       test : ℕ → Bool
       test h = settled up target i (o ++ fence h) k
+
       at : (c : Choice) → rule way up target i o k ≡ c
           → ((put : Stream) × (before j output ≡ o ++ put) × Puts (rule way up target i o k) put)
           → (Settled up target i o k → before j output ≡ o)
           × ((Settled up target i o k → ⊥) → (g : ℕ) × (before j output ≡ o ++ fence g) × Takes way test (length (target .fences)) g)
-      at Choice.Nothing r (put, e, p) =
-          (λ h. e ∙ ap (λ (x : Stream). o ++ x) (subst (λ (c : Choice). Puts c put) r p) ∙ append-nil o,
-          λ n. absurd (n (settled-means up target i o k (rule-nothing way up target i o k r))))
+      at Choice.Nothing r (put, e, p) = (
+        λ h. e ∙ ap (λ (x : Stream). o ++ x) (subst (λ (c : Choice). Puts c put) r p) ∙ append-nil o,
+        λ n. absurd (n (settled-means up target i o k (rule-nothing way up target i o k r))),
+      )
       at (Choice.Fence g) r (put, e, p) =
-          let w = rule-fence way up target i o k g r in
-          (λ h. absurd (not-both (means-settled up target i o k h) (w .0)),
-          λ n. (g, e ∙ ap (λ (x : Stream). o ++ x) (subst (λ (c : Choice). Puts c put) r p), w .1))
+          let w = rule-fence way up target i o k g r in (
+            λ h. absurd (not-both (means-settled up target i o k h) (w .0)),
+            λ n. (g, e ∙ ap (λ (x : Stream). o ++ x) (subst (λ (c : Choice). Puts c put) r p), w .1),
+          )
       at Choice.Refused r (put, e, p) = absurd (subst (λ (c : Choice). Puts c put) r p)
 
   -- Nothing is put behind the last access.
@@ -122,8 +128,8 @@ module _ (way : Way) (up target : Model) (input : Stream) (place : ℕ) where
     pub none-will-do : NoneWillDo way (λ (g : ℕ). settled up target first (out ++ fence g) kind) (length (target .fences))
 
   pub refused-exactly-when : (run way up target input ≡ refused place → NoFenceWillDo) × (NoFenceWillDo → run way up target input ≡ refused place)
-  refused-exactly-when =
-      ((λ e.
+  refused-exactly-when = (
+    (λ e.
         let f = refused-refusal way up target input [] [] place e in
         let w = rule-refused way up target (f .first) (f .out) (f .kind) (f .stuck) in
         record {
@@ -135,9 +141,9 @@ module _ (way : Way) (up target : Model) (input : Stream) (place : ℕ) where
           index = f .index;
           accepted = f .accepted;
           short = w .0;
-          none-will-do = w .1
+          none-will-do = w .1;
         }),
-      (λ f.
+    (λ f.
         refusal-refused way up target [] [] input place
         (record {
           first = f .first;
@@ -148,9 +154,10 @@ module _ (way : Way) (up target : Model) (input : Stream) (place : ℕ) where
           index = f .index;
           accepted = f .accepted;
           stuck =
-            short-rule way up target (f .first) (f .out) (f .kind) (f .short)
-            ∙ none-pick (λ (g : ℕ). settled up target (f .first) (f .out ++ fence g) (f .kind)) way (length (target .fences)) (f .none-will-do)
-        })))
+              short-rule way up target (f .first) (f .out) (f .kind) (f .short)
+              ∙ none-pick (λ (g : ℕ). settled up target (f .first) (f .out ++ fence g) (f .kind)) way (length (target .fences)) (f .none-will-do);
+        })),
+  )
 
 -- The run by situations, from the fresh situation, is the run by the rule.
 pub steps-are-the-rule : (way : Way) (up target : Model) (s : Stream) → run way up target s ≡ steps way up target fresh s

@@ -23,8 +23,11 @@ pub record Model : Type 0 where
   pub fences : List ℕ
 
 -- a fence's table; a fence that the model does not have orders nothing
+abbrev pub tableAt : List ℕ → ℕ → Table
+tableAt fences n = record { packed = getD fences n 0 }
+
 abbrev pub fenceTable : Model → ℕ → Table
-fenceTable m n = record { packed = getD (m .fences) n 0 }
+fenceTable m n = tableAt (m .fences) n
 
 -- the rows in which an access counts as the earlier of a pair, and the columns in which it counts as the later
 abbrev pub rows : Kind → List Row

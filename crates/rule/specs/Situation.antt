@@ -15,8 +15,9 @@ use Rattle.rule.specs.declared.operation.Operation.{Operation}
 use Rattle.rule.specs.declared.situation.Situation.{Situation}
 use Rattle.rule.specs.declared.way.Way.{Way}
 use Rattle.rule.specs.declared.way.Choice.{Choice}
+use Rattle.rule.specs.declared.way.Step.{Step}
 use Rattle.rule.specs.Stream.{Stream, access, fence, count, kindAt, after}
-use Rattle.rule.specs.Pairs.{Model, fenceTable, isRow, isColumn, highest}
+use Rattle.rule.specs.Pairs.{Model, tableAt, fenceTable, isRow, isColumn, highest}
 use Rattle.rule.specs.Rule.{pick, Ran, done, refused, behind}
 
 -- by pairs
@@ -78,28 +79,35 @@ abbrev pub joins : Table → Table → Kind → Situation → Situation
 joins up target k s =
     record {
       need = higher (s .need) (lower (inRows k) (exceeding up target));
-      low = lower (s .low) (higher target (outsideRows k))
+      low = lower (s .low) (higher target (outsideRows k));
     }
 
 -- what an access of kind k coming now needs
 abbrev pub pending : Kind → Situation → Table
 pending k s = lower (s .need) (inColumns k)
 
--- what the way puts before it
-unfoldable pub chosen : Way → Model → Situation → Kind → Choice
-chosen way target s k =
-    choose (atLeast none (pending k s)) Choice.Nothing
-    (pick way (λ (g : ℕ). atLeast (fenceTable target g) (pending k s)) (length (target .fences)))
+-- what the way puts before an access that needs this, of these fences
+unfoldable pub choiceOf : Way → List ℕ → Table → Choice
+choiceOf way fences p =
+    choose (atLeast none p) Choice.Nothing (pick way (λ (g : ℕ). atLeast (tableAt fences g) p) (length fences))
+
+-- an access after a choice: what is put before it, and the situation after it
+abbrev pub stepOf : Table → Model → Situation → Kind → Choice → Step
+stepOf up target s k Choice.Nothing = Step.Plain (joins up (target .ppo) k s)
+stepOf up target s k (Choice.Fence g) = Step.Fenced g (joins up (target .ppo) k (offers (fenceTable target g) s))
+stepOf up target s k Choice.Refused = Step.Refused
+
+abbrev pub stepped : Way → Table → Model → Situation → Kind → Step
+stepped way up target s k = stepOf up target s k (choiceOf way (target .fences) (pending k s))
 
 -- the run by situations
+abbrev pub resumed : Kind → (Situation → Ran) → Step → Ran
+resumed k rest (Step.Plain next) = behind (access k) (rest next)
+resumed k rest (Step.Fenced g next) = behind (fence g ++ access k) (rest next)
+resumed k rest Step.Refused = refused 0
+
 unfoldable pub steps : Way → Model → Model → Situation → Stream → Ran
 steps way up target s [] = done []
 steps way up target s (Operation.Fence n ∷ rest) = behind [] (steps way up target (asks (fenceTable up n) s) rest)
 steps way up target s (Operation.Access k ∷ rest) =
-    elim (chosen way target s k) [
-      Choice.Nothing ↦ behind (access k) (steps way up target (joins (up .ppo) (target .ppo) k s) rest)
-    | Choice.Fence g ↦
-        behind (fence g ++ access k)
-        (steps way up target (joins (up .ppo) (target .ppo) k (offers (fenceTable target g) s)) rest)
-    | Choice.Refused ↦ refused 0
-    ]
+    resumed k (λ (next : Situation). steps way up target next rest) (stepped way (up .ppo) target s k)

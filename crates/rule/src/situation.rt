@@ -2,10 +2,10 @@
 // short, and the least offered.
 ghost use mathlib.Core.Path.{_≡_};
 ghost use Rattle.rule.specs.Situation.{inRows, outsideRows, inColumns, asks, offers, joins, pending, fresh};
-
-use tables::table::{Column, Row, Table};
-
 use crate::operation::Kind;
+use tables::table::Column;
+use tables::table::Row;
+use tables::table::Table;
 
 pub struct Situation {
     pub need: Table,
@@ -52,7 +52,8 @@ impl Situation {
         ensures { λ r. ⌜ r ≡ joins upstream target kind self ⌝ }
     {
         Situation {
-            need: self.need.higher(in_rows(kind).lower(upstream.exceeding(target))),
+            need: self.need
+                .higher(in_rows(kind).lower(upstream.exceeding(target))),
             low: self.low.lower(target.higher(outside_rows(kind))),
         }
     }

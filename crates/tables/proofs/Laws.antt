@@ -155,7 +155,7 @@ pub at-least-cells : (a b : Table) → atLeast a b ≡ true → (r : Row) (c : C
 unfolding atLeast
 at-least-cells a b h r c =
     let e : excess (cell b r c) (cell a r c) ≡ 0 =
-        sym (cell-merged Merge.Exceeding b a r c) ∙ ap (λ (n : ℕ). digit n (place r c)) (eqb-true _ _ h) ∙ cell-none r c in
+    sym (cell-merged Merge.Exceeding b a r c) ∙ ap (λ (n : ℕ). digit n (place r c)) (eqb-true _ _ h) ∙ cell-none r c in
     omega (arith, excess-lifts (cell b r c) (cell a r c) 0 (omega arith))
 
 pub cells-at-least : (a b : Table) → ((r : Row) (c : Column) → cell b r c ≤ cell a r c) → atLeast a b ≡ true
