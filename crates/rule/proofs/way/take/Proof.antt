@@ -63,7 +63,7 @@ returns-2 : tie.Need-returns-2
 returns-2 c =
     let a = c .before .before .before .before .before .before .before .before .before .args in
     let o = c .before .before .before .before .before .before in
-    ap (Step.Fenced _)
+    ap (Step.Fenced (c .before .before .before .before .choice .given .0 .0))
     (c .joins2 .ensures
     ∙ ap (joins (a .upstream) (a .target) (a .kind))
     (c .before .offers .ensures ∙ ap (λ (t : Table). offers t (a .situation)) (c .before .before .fence-table .ensures)))
