@@ -74,7 +74,11 @@ impl Answer {
         ensures { λ r. ⌜ r ≡ numbersOf self ⌝ }
     {
         match self {
-            Answer::Done { written, fences, state } => [0, 0, written as u64, fences as u64, state as u64],
+            Answer::Done {
+                written,
+                fences,
+                state,
+            } => [0, 0, written as u64, fences as u64, state as u64],
             Answer::Refused(why) => [why.number(), why.place(), 0, 0, 0],
         }
     }
