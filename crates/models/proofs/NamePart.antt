@@ -60,6 +60,9 @@ run-is (suc limit) (b ∷ s) = by (nameByte b) (λ t. t) (λ t. t) (run-is limit
 pub run-within : (s : List ℕ) → nameRun 16 s ≤ length s
 run-within s = run-is 16 s .within
 
+pub run-few : (s : List ℕ) → nameRun 16 s ≤ 16
+run-few s = run-is 16 s .few
+
 module _ (e : ℕ) (not-name : T (nameByte e) → ⊥) where
   -- where a text s that goes on as a name and e after it was begun: before its j-th byte s says what the name has there
   in-name : (s rest n : List ℕ) (j i : ℕ) → j ≤ length s → i < j → take j s ++ rest ≡ n ++ (e ∷ []) → i < length n → getD s i 0 ≡ getD n i 0

@@ -12,10 +12,14 @@ use lib.ListN.{length, drop, getD, drop-of-length-le, length-drop}
 use lib.Seq.{drop-cons, getD-drop}
 use Rattle.tables.specs.Table.{choose}
 use Rattle.models.specs.declared.scan.Step.{Step}
+use Rattle.answers.specs.declared.Refusal.{Refusal}
+use Rattle.models.specs.declared.scan.Line.{Line}
 use Rattle.models.specs.declared.scan.LineRead.{LineRead}
+use Rattle.models.specs.declared.model.Reading.{Reading}
+use Rattle.models.specs.declared.reader.Progress.{Progress}
 use Rattle.models.specs.Model.{nameByte}
 use Rattle.models.specs.Scan.{fits, shift, further, follow, followAt, nameRun, endName, nameStep, nameAt}
-use Rattle.models.specs.Reading.{after}
+use Rattle.models.specs.Reading.{after, onStep, onLine, refusing, ended, headAt, fenceAt, nameIn, tableIn, started, fenceFrom, linesFrom, reading}
 use Rattle.models.proofs.NamePart.{run-within}
 
 shift-further : (here : ℕ) (r : Step) → shift here (further r) ≡ shift (here + 1) r
@@ -117,3 +121,53 @@ after-stuck more e f = ap (λ (s : Step). after s more) (sym f ∙ e)
 
 pub after-next : {r st : Step} {n : ℕ} {x : LineRead} (more : ℕ → LineRead) → r ≡ st → r ≡ Step.Next n → x ≡ more n → x ≡ after st more
 after-next more e f is = is ∙ ap (λ (s : Step). after s more) (sym f ∙ e)
+
+pub step-stuck : {r st : Step} {at : ℕ} {x : Reading} (more : ℕ → Reading) → r ≡ st → r ≡ Step.Stuck at → x ≡ refusing (Refusal.NotOfTheForm at) → x ≡ onStep st more
+step-stuck more e f is = is ∙ ap (λ (s : Step). onStep s more) (sym f ∙ e)
+
+pub step-next : {r st : Step} {n : ℕ} {x : Reading} (more : ℕ → Reading) → r ≡ st → r ≡ Step.Next n → x ≡ more n → x ≡ onStep st more
+step-next more e f is = is ∙ ap (λ (s : Step). onStep s more) (sym f ∙ e)
+
+pub line-stuck : {r st : LineRead} {at : ℕ} {x : Reading} (more : Line → Reading) → r ≡ st → r ≡ LineRead.Stuck at → x ≡ refusing (Refusal.NotOfTheForm at)
+    → x ≡ onLine st more
+line-stuck more e f is = is ∙ ap (λ (s : LineRead). onLine s more) (sym f ∙ e)
+
+pub line-next : {r st : LineRead} {l : Line} {x : Reading} (more : Line → Reading) → r ≡ st → r ≡ LineRead.Read l → x ≡ more l → x ≡ onLine st more
+line-next more e f is = is ∙ ap (λ (s : LineRead). onLine s more) (sym f ∙ e)
+
+-- one line more, or the last one
+module _ (t : List ℕ) (p : Progress) (here : ℕ) where
+  pub lines-last : (left : ℕ) → left ≤ 0 → linesFrom left t p here ≡ ended t p here
+  unfolding linesFrom
+  lines-last left h =
+      let z : left ≡ 0 = omega arith in
+      ap (λ (n : ℕ). linesFrom n t p here) z
+
+  pub lines-end : (left : ℕ) → (getD t here 0 ≡ 102 → ⊥) → linesFrom left t p here ≡ ended t p here
+  unfolding linesFrom
+  lines-end zero h = refl
+  lines-end (suc n) h = rw (ne-eqb _ _ h)
+
+  pub lines-fence : (left : ℕ) → 0 < left → getD t here 0 ≡ 102
+      → linesFrom left t p here ≡ onLine (fenceAt t here) (λ line. linesFrom (left - 1) t (fenceFrom t p line) (line .next))
+  unfolding linesFrom
+  lines-fence left l h =
+      let n : ℕ = left - 1 in
+      let e : left ≡ suc n = omega arith in
+      ap (λ (k : ℕ). linesFrom k t p here) e
+      ∙ ap
+      (λ (q : Bool).
+      choose q (onLine (fenceAt t here) (λ line. linesFrom n t (fenceFrom t p line) (line .next))) (ended t p here))
+      (eq-eqb _ _ h)
+
+pub reading-over : (t : List ℕ) → 1024 < length t → reading t ≡ refusing Refusal.OverLimit
+unfolding reading
+reading-over t l = rw (lt-ltb 1024 (length t) l)
+
+-- the fences' lines, after those above them
+abbrev pub afterHead : List ℕ → Line → Reading
+afterHead t line = linesFrom 16 t (started (nameIn (drop (line .name) t)) (tableIn (drop (line .table) t))) (line .next)
+
+pub reading-within : (t : List ℕ) → length t ≤ 1024 → reading t ≡ onLine (headAt t) (afterHead t)
+unfolding reading
+reading-within t l = rw (le-ltb 1024 (length t) l)

@@ -44,9 +44,12 @@ held d = record {
   names = padded (filled []) (map (λ (f : Fence). filled (f .name)) (d .fences));
 }
 
--- a model that holds nothing
+-- a model without fences, and one that holds nothing at all
+abbrev pub bare : Name → Table → Model
+bare name ppo = record { ppo = ppo; fences = 0; tables = replicate 16 0; name = name; names = replicate 16 (filled []) }
+
 abbrev pub nothing : Model
-nothing = record { ppo = record { packed = 0 }; fences = 0; tables = replicate 16 0; name = filled []; names = replicate 16 (filled []) }
+nothing = bare (filled []) (record { packed = 0 })
 
 abbrev pub accepting : Model → Reading
 accepting m = record { verdict = Verdict.Accepted; model = m }
@@ -108,12 +111,12 @@ headAt t = after (followAt (bytes "model ") t 0) λ name. after (nameAt 10 t nam
 unfoldable pub fenceAt : List ℕ → ℕ → LineRead
 fenceAt t at = after (followAt (bytes "fence ") t at) λ name. after (nameAt 32 t name) λ table. lineEnd t name table
 
--- what stands at the places of a line
-unfoldable pub nameIn : List ℕ → ℕ → Name
-nameIn t at = filled (take (nameRun 16 (drop at t)) (drop at t))
+-- the name and the table at the front of what is left of a text
+unfoldable pub nameIn : List ℕ → Name
+nameIn s = filled (take (nameRun 16 s) s)
 
-unfoldable pub tableIn : List ℕ → ℕ → Table
-tableIn t at = table (λ (r : Row) (c : Column). levelOf (getD t (at + (5 * rowNumber r + columnNumber c)) 0))
+unfoldable pub tableIn : List ℕ → Table
+tableIn s = table (λ (r : Row) (c : Column). levelOf (getD s (5 * rowNumber r + columnNumber c) 0))
 
 abbrev pub sameBytes : List ℕ → List ℕ → Bool
 sameBytes [] [] = true
@@ -126,10 +129,7 @@ among n [] = false
 among n (m ∷ ms) = sameBytes (m .bytes) (n .bytes) || among n ms
 
 abbrev pub started : Name → Table → Progress
-started name ppo = record {
-  model = record { ppo = ppo; fences = 0; tables = replicate 16 0; name = name; names = replicate 16 (filled []) };
-  repeat = 0;
-}
+started name ppo = record { model = bare name ppo; repeat = 0 }
 
 -- one fence more; the place of the first name that stood above already is kept (0 while there is none: no fence name stands at 0)
 abbrev pub repeatOf : Progress → Name → ℕ → ℕ
@@ -147,6 +147,9 @@ withFence p name at table = record {
   repeat = repeatOf p name at;
 }
 
+abbrev pub fenceFrom : List ℕ → Progress → Line → Progress
+fenceFrom t p line = withFence p (nameIn (drop (line .name) t)) (line .name) (tableIn (drop (line .table) t))
+
 abbrev pub finished : Progress → Reading
 finished p = choose (eqb (p .repeat) 0) (accepting (p .model)) (refusing (Refusal.FenceNameRepeats (p .repeat)))
 
@@ -160,10 +163,10 @@ unfoldable pub linesFrom : ℕ → List ℕ → Progress → ℕ → Reading
 linesFrom zero t p at = ended t p at
 linesFrom (suc left) t p at =
     choose (eqb (getD t at 0) 102)
-    (onLine (fenceAt t at) λ line. linesFrom left t (withFence p (nameIn t (line .name)) (line .name) (tableIn t (line .table))) (line .next))
+    (onLine (fenceAt t at) λ line. linesFrom left t (fenceFrom t p line) (line .next))
     (ended t p at)
 
 unfoldable pub reading : List ℕ → Reading
 reading t =
     choose (ltb 1024 (length t)) (refusing Refusal.OverLimit)
-    (onLine (headAt t) λ line. linesFrom 16 t (started (nameIn t (line .name)) (tableIn t (line .table))) (line .next))
+    (onLine (headAt t) λ line. linesFrom 16 t (started (nameIn (drop (line .name) t)) (tableIn (drop (line .table) t))) (line .next))

@@ -9,19 +9,19 @@ ghost use Rattle.models.specs.Model.{between, nameByte};
 ghost use Rattle.models.specs.Scan.{cellByte, fits, nameRun, followAt, nameAt, tablePattern};
 ghost use Rattle.models.specs.Reading.{lineEnd, ppoAt, headAt, fenceAt};
 
-enum Step {
+pub enum Step {
     Next(usize),
     Stuck(usize),
 }
 
 // Where a line has its name and its table, and where the next line begins. The two lines above the fences count as one.
-struct Line {
-    name: usize,
-    table: usize,
-    next: usize,
+pub struct Line {
+    pub name: usize,
+    pub table: usize,
+    pub next: usize,
 }
 
-enum LineRead {
+pub enum LineRead {
     Read(Line),
     Stuck(usize),
 }
@@ -101,7 +101,7 @@ pub fn follow(text: &[u8], at: usize, pattern: &[u8]) -> Step
 }
 
 // How many name bytes stand at a place, counted up to 16.
-fn name_bytes(text: &[u8], at: usize) -> usize
+pub fn name_bytes(text: &[u8], at: usize) -> usize
     ensures { λ r. ⌜ r ≡ nameRun 16 (drop at (now (text .entry))) ⌝ }
 {
     let mut here = at;

@@ -55,9 +55,9 @@ onward way up target input output [] = done []
 onward way up target input output (Operation.Fence n ∷ s) = behind [] (onward way up target (input ++ fence n) output s)
 onward way up target input output (Operation.Access k ∷ s) =
     elim (rule way up target input output k) [
-      Choice.Nothing ↦ behind (access k) (onward way up target (input ++ access k) (output ++ access k) s)
-    | Choice.Fence g ↦ behind (fence g ++ access k) (onward way up target (input ++ access k) (output ++ (fence g ++ access k)) s)
-    | Choice.Refused ↦ refused 0
+      | Choice.Nothing ↦ behind (access k) (onward way up target (input ++ access k) (output ++ access k) s)
+      | Choice.Fence g ↦ behind (fence g ++ access k) (onward way up target (input ++ access k) (output ++ (fence g ++ access k)) s)
+      | Choice.Refused ↦ refused 0
     ]
 
 -- the run of a stream by the fresh shim

@@ -74,7 +74,7 @@ abbrev pub joins : Table → Table → Kind → Situation → Situation
 joins up target k s =
     record {
       need = higher (s .need) (lower (inRows k) (exceeding up target));
-      low = lower (s .low) (higher target (outsideRows k))
+      low = lower (s .low) (higher target (outsideRows k));
     }
 
 -- what an access of kind k coming now needs
@@ -93,9 +93,9 @@ steps way up target s [] = done []
 steps way up target s (Operation.Fence n ∷ rest) = behind [] (steps way up target (asks (fenceTable up n) s) rest)
 steps way up target s (Operation.Access k ∷ rest) =
     elim (chosen way target s k) [
-      Choice.Nothing ↦ behind (access k) (steps way up target (joins (up .ppo) (target .ppo) k s) rest)
-    | Choice.Fence g ↦
-        behind (fence g ++ access k)
-        (steps way up target (joins (up .ppo) (target .ppo) k (offers (fenceTable target g) s)) rest)
-    | Choice.Refused ↦ refused 0
+      | Choice.Nothing ↦ behind (access k) (steps way up target (joins (up .ppo) (target .ppo) k s) rest)
+      | Choice.Fence g ↦
+          behind (fence g ++ access k)
+          (steps way up target (joins (up .ppo) (target .ppo) k (offers (fenceTable target g) s)) rest)
+      | Choice.Refused ↦ refused 0
     ]
