@@ -7,7 +7,7 @@ use mathlib.Core.Logic.{_⊎_, inl, inr}
 use native.Mathlib.Omega.{arith}
 use native.Mathlib.Decide.{decLe}
 use native.Mathlib.Nat.{add-assoc}
-use lib.ListN.{length, take, drop, getD, length-append, length-drop}
+use lib.ListN.{length, take, drop, getD, length-append, length-drop, take-append-drop}
 use lib.Seq.{take-add, take-at, drop-at, length-take-le, take-append-add, take-length, drop-length}
 use Rattle.answers.specs.declared.Refusal.{Refusal}
 use Rattle.models.specs.declared.scan.Step.{Step}
@@ -47,6 +47,14 @@ drop-within s m j lm lj = ap (drop m) (sym (append-nil (take j s))) ∙ drop-cut
 
 pub length-begun : (s rest : List ℕ) (j : ℕ) → j ≤ length s → length (take j s ++ rest) ≡ j + length rest
 length-begun s rest j lj = length-append (take j s) rest ∙ ap (λ (n : ℕ). n + length rest) (length-take-le j s lj)
+
+-- two parts put together, and a text taken apart again
+pub seq-join : (L M : Language) (a b : List ℕ) → L a → M b → Seq L M (a ++ b)
+seq-join L M a b la mb =
+    (length a, omega (arith, length-append a b), subst L (sym (take-at a b (length a) refl)) la, subst M (sym (drop-at a b (length a) refl)) mb)
+
+pub seq-apart : (L M : Language) (t : List ℕ) → Seq L M t → (a : List ℕ) × (b : List ℕ) × (t ≡ a ++ b) × L a × M b
+seq-apart L M t (n, ln, la, mb) = (take n t, drop n t, sym (take-append-drop n t), la, mb)
 
 -- where the first part is found, the second decides
 pub longest-next : (L M : Language) → PrefixFree L → (s : List ℕ) (n k : ℕ) → n ≤ length s → L (take n s) → Longest M (drop n s) k
