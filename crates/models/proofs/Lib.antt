@@ -6,3 +6,4 @@ pub mod Taken
 pub mod Judgement
 pub mod TableText
 pub mod Grammar
+pub mod Reread
