@@ -7,3 +7,6 @@ pub mod Judgement
 pub mod TableText
 pub mod Grammar
 pub mod Reread
+pub mod Names
+pub mod Pushed
+pub mod Words

@@ -166,7 +166,7 @@ fence-long f = omega (arith, length-append (f .name) (bytes " " ++ tablePart (f 
 
 module _ (d : Description) where
   -- what the reader holds after k fences
-  pub pushed : ℕ → Progress
+  unfoldable pub pushed : ℕ → Progress
   pushed zero = started (filled (d .name)) (d .ppo)
   pushed (suc k) = withFence (pushed k) (filled (nameOf d k)) (nameStands d k) (fenceOf d k .table)
 

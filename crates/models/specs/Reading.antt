@@ -58,8 +58,11 @@ abbrev pub refusing : Refusal → Reading
 refusing why = record { verdict = Verdict.Refused why; model = nothing }
 
 -- the fence k, where its line begins in the text, and where its name stands there: behind the word `fence `
+abbrev pub noFence : Fence
+noFence = record { name = []; table = record { packed = 0 } }
+
 abbrev pub fenceOf : Description → ℕ → Fence
-fenceOf d k = getD (d .fences) k (record { name = []; table = record { packed = 0 } })
+fenceOf d k = getD (d .fences) k noFence
 
 abbrev pub nameOf : Description → ℕ → List ℕ
 nameOf d k = fenceOf d k .name
