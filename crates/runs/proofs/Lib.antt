@@ -1,0 +1,2 @@
+pub mod ByMoves
+pub mod Counting
