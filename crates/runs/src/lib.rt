@@ -2,12 +2,12 @@
 ghost use mathlib.Core.Path.{_≡_};
 ghost use Prim.Native.Nat.{_+_, _≤_, _<_};
 ghost use lib.ListN.{length, take};
-ghost use Rattle.rule.specs.Situation.{fresh};
+ghost use Rattle.rule.specs.Situation.{fresh, stepped};
 ghost use Rattle.rule.specs.Operation.{byteIs};
 ghost use Rattle.runs.specs.Bytes.{isFence, fenceBytes};
 ghost use Rattle.runs.specs.Call.{wayOf, modelOf, outcome, answerOf, bufferOf};
-ghost use Rattle.runs.specs.Moves.{moved, moves, turned, laid, side, movedBy, movedAs, Ends};
-ghost use Rattle.runs.specs.Bytes.{good, direct};
+ghost use Rattle.runs.specs.Moves.{moved, moves, turned, laid, side, movedBy, asked, Ends};
+ghost use Rattle.runs.specs.Bytes.{direct};
 
 use answers::{Answer, Refusal};
 use rule::operation::{Byte, Kind, Operation};
@@ -85,6 +85,51 @@ fn one_if_fence(byte: u8) -> usize
         Byte::Is(operation) => match operation {
             Operation::Access(_) => 0,
             Operation::Fence(_) => 1,
+        },
+    }
+}
+
+// What an access does, at its index.
+fn access<'a>(shim: Shim, targets: &'a [u64], situation: Situation, at: usize, kind: Kind) -> Move
+    ensures { λ r. ⌜ r ≡ movedBy at (stepped (shim .way) (shim .upstream) (side (shim .target) (now (targets .entry))) situation kind) ⌝ }
+{
+    let way = shim.way;
+    let step = rule::way::take(way, shim.upstream, shim.target, targets, situation, kind);
+    match step {
+        Step::Plain(next) => Move::Plain(next),
+        Step::Fenced(g, next) => Move::Fenced(g, next),
+        Step::Refused => Move::Refused(Refusal::NoFenceWillDo(at)),
+    }
+}
+
+// What an upstream fence does, at its index.
+fn ask(fences: &[u64], situation: Situation, at: usize, number: usize) -> Move
+    ensures { λ r. ⌜ r ≡ asked (now (fences .entry)) situation at number ⌝ }
+{
+    if number < fences.len() {
+        Move::Silent(situation.asks(rule::way::fence_table(fences, number)))
+    } else {
+        Move::Refused(Refusal::NoSuchFence(at))
+    }
+}
+
+// What a byte does, at its index.
+fn advance<'a>(
+    shim: Shim,
+    fences: &'a [u64],
+    targets: &'a [u64],
+    situation: Situation,
+    at: usize,
+    byte: u8,
+) -> Move
+    ensures { λ r. ⌜ r ≡ moved (shim .way) (side (shim .upstream) (now (fences .entry))) (side (shim .target) (now (targets .entry))) situation at byte ⌝ }
+{
+    let read = rule::operation::read_byte(byte);
+    match read {
+        Byte::Nothing => Move::Refused(Refusal::NoOperation(at)),
+        Byte::Is(operation) => match operation {
+            Operation::Access(kind) => access(shim, targets, situation, at, kind),
+            Operation::Fence(number) => ask(fences, situation, at, number),
         },
     }
 }
