@@ -133,3 +133,33 @@ fn advance<'a>(
         },
     }
 }
+
+// Lays what a move puts out into the buffer, behind what is there.
+fn lay(step: Move, byte: u8, written: usize, buffer: &mut [u8]) -> Turn
+    requires { ⌜ written + 1 < length (now buffer) ⌝ }
+    ensures answer { λ r. ⌜ r ≡ turned step written ⌝ }
+    ensures buffer { λ _. ⌜ now (buffer .exit) ≡ laid step byte written (now (buffer .entry)) ⌝ }
+{
+    match step {
+        Move::Silent(next) => Turn::On(Progress {
+            situation: next,
+            written,
+        }),
+        Move::Plain(next) => {
+            buffer[written] = byte;
+            Turn::On(Progress {
+                situation: next,
+                written: written + 1,
+            })
+        }
+        Move::Fenced(g, next) => {
+            buffer[written] = rule::operation::byte_of(Operation::Fence(g));
+            buffer[written + 1] = byte;
+            Turn::On(Progress {
+                situation: next,
+                written: written + 2,
+            })
+        }
+        Move::Refused(why) => Turn::Stop(why),
+    }
+}
