@@ -1,2 +1,3 @@
 pub mod ByMoves
 pub mod Counting
+pub mod Running

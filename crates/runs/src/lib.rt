@@ -163,3 +163,33 @@ fn lay(step: Move, byte: u8, written: usize, buffer: &mut [u8]) -> Turn
         Move::Refused(why) => Turn::Stop(why),
     }
 }
+
+// Runs the stream from the fresh situation, into a buffer that holds two bytes for each operation.
+fn run_stream<'a>(
+    shim: Shim,
+    fences: &'a [u64],
+    targets: &'a [u64],
+    stream: &'a [u8],
+    buffer: &mut [u8],
+) -> Ended
+    requires { ⌜ (length (now stream) ≤ 4096) × (length (now buffer) ≡ 8192) ⌝ }
+    ensures { λ r. ⌜ Ends (moves (shim .way) (side (shim .upstream) (now (fences .entry))) (side (shim .target) (now (targets .entry))) fresh 0 (now (stream .entry))) r (now (buffer .exit)) ⌝ }
+{
+    let mut situation = Situation::FRESH;
+    let mut written = 0;
+    let mut at = 0;
+    while at < stream.len() {
+        let byte = stream[at];
+        let step = advance(shim, fences, targets, situation, at, byte);
+        let turn = lay(step, byte, written, buffer);
+        match turn {
+            Turn::Stop(why) => return Ended::Refused(why),
+            Turn::On(next) => {
+                situation = next.situation;
+                written = next.written;
+            }
+        }
+        at += 1;
+    }
+    Ended::Done(written)
+}
