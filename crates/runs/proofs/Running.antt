@@ -76,19 +76,26 @@ module _ (way : Way) (up target : Model) (stream : List ℕ) where
     pub ends : length stream ≤ 4096 → length stream ≤ at → Ends (moves way up target fresh 0 stream) (Ended.Done written) buffer
     unfolding moves
     ends few l =
-        (omega (arith, run .here, run .room, run .size),
-        run .whole
-        ∙ ap (λ (s : List ℕ). ahead (take written buffer) (moves way up target situation at s)) (drop-of-length-le stream l)
-        ∙ ap put (append-nil (take written buffer)))
+        record {
+          fits = omega (arith, run .here, run .room, run .size);
+          gives =
+            run .whole
+            ∙ ap (λ (s : List ℕ). ahead (take written buffer) (moves way up target situation at s)) (drop-of-length-le stream l)
+            ∙ ap put (append-nil (take written buffer))
+        }
 
-    pub stops : (m : Move) (why : Refusal) → at < length stream → m ≡ moved way up target situation at (getD stream at 0) → turned m written ≡ Turn.Stop why
+    stopped : (m : Move) (why : Refusal) → at < length stream → m ≡ moved way up target situation at (getD stream at 0) → turned m written ≡ Turn.Stop why
         → moves way up target fresh 0 stream ≡ refuse why
-    stops (Move.Silent next) why l e t = differ (cc)
-    stops (Move.Plain next) why l e t = differ (cc)
-    stops (Move.Fenced g next) why l e t = differ (cc)
-    stops (Move.Refused w) why l e t =
+    stopped (Move.Silent next) why l e t = differ (cc)
+    stopped (Move.Plain next) why l e t = differ (cc)
+    stopped (Move.Fenced g next) why l e t = differ (cc)
+    stopped (Move.Refused w) why l e t =
         let same : w ≡ why = cc in
         turns-by (Move.Refused w) l e ∙ ap refuse same
+
+    pub stops : (m : Move) (why : Refusal) (after : List ℕ) → at < length stream → m ≡ moved way up target situation at (getD stream at 0)
+        → turned m written ≡ Turn.Stop why → Ends (moves way up target fresh 0 stream) (Ended.Refused why) after
+    stops m why after l e t = record { fits = tt; gives = stopped m why l e t }
 
     -- more bytes laid, and the rest of the run
     more : (next : Situation) (n : ℕ) (after bytes : List ℕ) → at < length stream → n ≤ 2 * (at + 1) → length after ≡ length buffer

@@ -2,7 +2,7 @@
 -- 7 last." "A refusal returns its number and place .., every other number zero; every buffer keeps its former bytes. Success returns number 0
 -- with place 0, bytes written, fences inserted ..; bytes past those written stay." A stream has at most 4,096 operations.
 -- Way numbers are those of the image layout: 0 sparing, 1 full.
-use Prim.Native.Nat.{ℕ}
+use Prim.Native.Nat.{ℕ, _≤_}
 use mathlib.Core.List.{List}
 use lib.Dec.{ltb, eqb}
 use lib.ListN.{length, take}
@@ -25,6 +25,10 @@ wayOf n = choose (eqb n 0) (WayRead.Is Way.Sparing) (choose (eqb n 1) (WayRead.I
 -- a model as the rule sees it: its default table and the tables of its fences
 abbrev pub modelOf : Held.Model → Model
 modelOf m = record { ppo = m .ppo; fences = take (m .fences) (m .tables) }
+
+-- a model that holds a table for each of its fences, as every model does that was read
+abbrev pub Whole : Held.Model → Type 0
+Whole m = m .fences ≤ length (m .tables)
 
 -- the stages of a call: each goes on, or is the call's refusal
 

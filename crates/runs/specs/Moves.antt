@@ -71,7 +71,16 @@ laid (Move.Plain next) b n buffer = set buffer n b
 laid (Move.Fenced g next) b n buffer = set (set buffer n (fenceByte g)) (n + 1) b
 laid (Move.Refused why) b n buffer = buffer
 
--- a run that gives this outcome ends so, with the bytes at the front of the buffer
-abbrev pub Ends : Outcome → Ended → List ℕ → Type 0
-Ends x (Ended.Done n) buffer = (n ≤ length buffer) × (x ≡ put (take n buffer))
-Ends x (Ended.Refused why) buffer = x ≡ refuse why
+-- what a run has given that ends so, with its bytes at the front of the buffer; how many there are fits the buffer
+abbrev pub given : Ended → List ℕ → Outcome
+given (Ended.Done n) buffer = put (take n buffer)
+given (Ended.Refused why) buffer = refuse why
+
+abbrev pub Fits : Ended → List ℕ → Type 0
+Fits (Ended.Done n) buffer = n ≤ length buffer
+Fits (Ended.Refused why) buffer = Unit {0}
+
+-- a run that gives this outcome ends so
+pub record Ends (x : Outcome) (e : Ended) (buffer : List ℕ) : Type 0 where
+  pub fits : Fits e buffer
+  pub gives : x ≡ given e buffer

@@ -5,11 +5,12 @@ ghost use lib.ListN.{length, take};
 ghost use Rattle.rule.specs.Situation.{fresh, stepped};
 ghost use Rattle.rule.specs.Operation.{byteIs};
 ghost use Rattle.runs.specs.Bytes.{isFence, fenceBytes};
-ghost use Rattle.runs.specs.Call.{wayOf, modelOf, outcome, answerOf, bufferOf};
-ghost use Rattle.runs.specs.Moves.{moved, moves, turned, laid, side, movedBy, asked, Ends};
+ghost use Rattle.runs.specs.Call.{wayOf, modelOf, Whole, onStream, outcome, answerOf, bufferOf};
+ghost use Rattle.runs.specs.Moves.{moved, moves, turned, laid, side, movedBy, asked, given, Fits, Ends};
 ghost use Rattle.runs.specs.Bytes.{direct};
 
 use answers::{Answer, Refusal};
+use models::model::{Model, Verdict};
 use rule::operation::{Byte, Kind, Operation};
 use rule::situation::Situation;
 use rule::way::{Step, Way};
@@ -192,4 +193,59 @@ fn run_stream<'a>(
         at += 1;
     }
     Ended::Done(written)
+}
+
+// Writes out what a run has laid, or passes its refusal on.
+fn finish(ended: Ended, buffer: &[u8], out: &mut [u8]) -> Answer
+    requires { ⌜ Fits ended (now buffer) ⌝ }
+    ensures answer { λ r. ⌜ r ≡ answerOf (given ended (now (buffer .entry))) (length (now (out .entry))) ⌝ }
+    ensures buffer { λ _. ⌜ now (out .exit) ≡ bufferOf (given ended (now (buffer .entry))) (now (out .entry)) ⌝ }
+{
+    match ended {
+        Ended::Done(written) => {
+            let bytes = &buffer[..written];
+            answers::write_out(bytes, fences_in(bytes), 0, out)
+        }
+        Ended::Refused(why) => Answer::Refused(why),
+    }
+}
+
+// The run of a stream within its limit. It owns the buffer that the run is laid into, so that a refusal writes nothing.
+fn run_within<'a>(
+    shim: Shim,
+    fences: &'a [u64],
+    targets: &'a [u64],
+    stream: &'a [u8],
+    out: &mut [u8],
+) -> Answer
+    requires { ⌜ length (now stream) ≤ 4096 ⌝ }
+    ensures answer { λ r. ⌜ r ≡ answerOf (direct (shim .way) (side (shim .upstream) (now (fences .entry))) (side (shim .target) (now (targets .entry))) (now (stream .entry))) (length (now (out .entry))) ⌝ }
+    ensures buffer { λ _. ⌜ now (out .exit) ≡ bufferOf (direct (shim .way) (side (shim .upstream) (now (fences .entry))) (side (shim .target) (now (targets .entry))) (now (stream .entry))) (now (out .entry)) ⌝ }
+{
+    let mut buffer = [0u8; 8192];
+    let ended = run_stream(shim, fences, targets, stream, &mut buffer);
+    finish(ended, &buffer, out)
+}
+
+// The run over two models that were read.
+fn run_models(way: Way, upstream: Model, target: Model, stream: &[u8], out: &mut [u8]) -> Answer
+    requires { ⌜ Whole upstream × Whole target ⌝ }
+    ensures answer { λ r. ⌜ r ≡ answerOf (onStream (now (stream .entry)) (direct way (modelOf upstream) (modelOf target) (now (stream .entry)))) (length (now (out .entry))) ⌝ }
+    ensures buffer { λ _. ⌜ now (out .exit) ≡ bufferOf (onStream (now (stream .entry)) (direct way (modelOf upstream) (modelOf target) (now (stream .entry)))) (now (out .entry)) ⌝ }
+{
+    if 4096 < stream.len() {
+        return Answer::Refused(Refusal::OverLimit);
+    }
+    let fences = upstream.tables;
+    let n = upstream.fences;
+    let targets = target.tables;
+    let k = target.fences;
+    let defaults = upstream.ppo;
+    let offered = target.ppo;
+    let shim = Shim {
+        way,
+        upstream: defaults,
+        target: offered,
+    };
+    run_within(shim, &fences[..n], &targets[..k], stream, out)
 }

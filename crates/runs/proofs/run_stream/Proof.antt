@@ -52,7 +52,7 @@ returns c =
     let o = c .before .before .before .before .before .before .before .before .before .before .before .before .before .before .before in
     let y = c .before .before .before .before .before .lay in
     stops (o .args .shim .way) (side (o .args .shim .upstream) (now (o .args .fences))) (side (o .args .shim .target) (now (o .args .targets)))
-    (now (o .args .stream)) (c .before .before .before .before .before .before .before .before .before .before .loop .inv) (c .before .before .before .before .before .before .before .advance .result) _ (c .before .before .before .before .before .before .before .before .before .loop-test .taken)
+    (now (o .args .stream)) (c .before .before .before .before .before .before .before .before .before .before .loop .inv) (c .before .before .before .before .before .before .before .advance .result) _ _ (c .before .before .before .before .before .before .before .before .before .loop-test .taken)
     (c .before .before .before .before .before .before .before .advance .ensures) (sym (y .ensures .0) ∙ c .before .turn .given .1)
 
 enum-known-turn-2 : tie.Need-enum-known-turn-2 Inv-loop μ-loop
