@@ -50,6 +50,7 @@ same-byte n at b k e = is (byteIs b) refl
     tested : (t : Bool) (f : ℕ) → choose t (good (Operation.Fence f)) (bad (Refusal.NoSuchFence at)) ≡ good (Operation.Access k) → accessByte k ≡ b
     tested true f h = differ (cc)
     tested false f h = differ (cc)
+
     is : (x : Byte) → byteIs b ≡ x → accessByte k ≡ b
     is Byte.Nothing h =
         let z : bad (Refusal.NoOperation at) ≡ good (Operation.Access k) = sym (ap (judgedAs n at) h) ∙ e in

@@ -56,13 +56,13 @@ module _ (way : Way) (up target : Model) (stream : List ℕ) where
     -- with the next byte, the whole is what that byte does and what follows
     turns : at < length stream → moves way up target fresh 0 stream
         ≡ ahead (take written buffer) (movesOn (getD stream at 0) (λ (next : Situation). moves way up target next (at + 1) (drop (at + 1) stream))
-          (moved way up target situation at (getD stream at 0)))
+        (moved way up target situation at (getD stream at 0)))
     unfolding moves
     turns l =
         run .whole
         ∙ ap (λ (s : List ℕ). ahead (take written buffer) (moves way up target situation at s)) (drop-cons stream at 0 l)
         ∙ ap (λ (n : ℕ). ahead (take written buffer) (movesOn (getD stream at 0) (λ (next : Situation). moves way up target next n (drop n stream))
-          (moved way up target situation at (getD stream at 0)))) (sym (add-one at))
+        (moved way up target situation at (getD stream at 0)))) (sym (add-one at))
 
     -- what a byte does once its move is known
     turns-by : (m : Move) → at < length stream → m ≡ moved way up target situation at (getD stream at 0)
@@ -71,7 +71,7 @@ module _ (way : Way) (up target : Model) (stream : List ℕ) where
     turns-by m l e =
         turns l
         ∙ ap (λ (x : Move). ahead (take written buffer) (movesOn (getD stream at 0) (λ (next : Situation). moves way up target next (at + 1) (drop (at + 1) stream)) x))
-          (sym e)
+        (sym e)
 
     pub ends : length stream ≤ 4096 → length stream ≤ at → Ends (moves way up target fresh 0 stream) (Ended.Done written) buffer
     unfolding moves
@@ -79,9 +79,9 @@ module _ (way : Way) (up target : Model) (stream : List ℕ) where
         record {
           fits = omega (arith, run .here, run .room, run .size);
           gives =
-            run .whole
-            ∙ ap (λ (s : List ℕ). ahead (take written buffer) (moves way up target situation at s)) (drop-of-length-le stream l)
-            ∙ ap put (append-nil (take written buffer))
+              run .whole
+              ∙ ap (λ (s : List ℕ). ahead (take written buffer) (moves way up target situation at s)) (drop-of-length-le stream l)
+              ∙ ap put (append-nil (take written buffer));
         }
 
     stopped : (m : Move) (why : Refusal) → at < length stream → m ≡ moved way up target situation at (getD stream at 0) → turned m written ≡ Turn.Stop why
@@ -108,8 +108,8 @@ module _ (way : Way) (up target : Model) (stream : List ℕ) where
           room = room;
           size = size ∙ run .size;
           whole =
-            e ∙ ahead-ahead (take written buffer) bytes (moves way up target next (at + 1) (drop (at + 1) stream))
-            ∙ ap (λ (q : List ℕ). ahead q (moves way up target next (at + 1) (drop (at + 1) stream))) (sym laid-so)
+              e ∙ ahead-ahead (take written buffer) bytes (moves way up target next (at + 1) (drop (at + 1) stream))
+              ∙ ap (λ (q : List ℕ). ahead q (moves way up target next (at + 1) (drop (at + 1) stream))) (sym laid-so);
         }
 
     goes : (m : Move) (p : Progress) → at < length stream → length stream ≤ 4096

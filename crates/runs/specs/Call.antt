@@ -46,12 +46,15 @@ onReading r more = onVerdict (r .verdict) (more (modelOf (r .model)))
 abbrev pub onStream : List ℕ → Outcome → Outcome
 onStream stream more = choose (ltb 4096 (length stream)) (refuse Refusal.OverLimit) more
 
-unfoldable pub outcome : ℕ → List ℕ → List ℕ → List ℕ → Outcome
-outcome way upstream target stream =
-    onWay (wayOf way) (λ (w : Way).
-      onReading (reading upstream) (λ (u : Model).
-        onReading (reading target) (λ (t : Model).
-          onStream stream (direct w u t stream))))
+-- with the upstream model read; with the way read; the whole call
+abbrev pub onto : Way → Model → List ℕ → List ℕ → Outcome
+onto way up target stream = onReading (reading target) (λ (t : Model). onStream stream (direct way up t stream))
+
+abbrev pub under : Way → List ℕ → List ℕ → List ℕ → Outcome
+under way upstream target stream = onReading (reading upstream) (λ (u : Model). onto way u target stream)
+
+abbrev pub outcome : ℕ → List ℕ → List ℕ → List ℕ → Outcome
+outcome way upstream target stream = onWay (wayOf way) (λ (w : Way). under w upstream target stream)
 
 -- what the call answers where the buffer has room for so many bytes, and what the buffer holds then
 abbrev pub answerOf : Outcome → ℕ → Answer

@@ -5,15 +5,19 @@ ghost use lib.ListN.{length, take};
 ghost use Rattle.rule.specs.Situation.{fresh, stepped};
 ghost use Rattle.rule.specs.Operation.{byteIs};
 ghost use Rattle.runs.specs.Bytes.{isFence, fenceBytes};
-ghost use Rattle.runs.specs.Call.{wayOf, modelOf, Whole, onStream, outcome, answerOf, bufferOf};
+ghost use Rattle.runs.specs.Call.{wayOf, modelOf, Whole, onStream, onto, under, outcome, answerOf, bufferOf};
 ghost use Rattle.runs.specs.Moves.{moved, moves, turned, laid, side, movedBy, asked, given, Fits, Ends};
 ghost use Rattle.runs.specs.Bytes.{direct};
-
-use answers::{Answer, Refusal};
-use models::model::{Model, Verdict};
-use rule::operation::{Byte, Kind, Operation};
+use answers::Answer;
+use answers::Refusal;
+use models::model::Model;
+use models::model::Verdict;
+use rule::operation::Byte;
+use rule::operation::Kind;
+use rule::operation::Operation;
 use rule::situation::Situation;
-use rule::way::{Step, Way};
+use rule::way::Step;
+use rule::way::Way;
 use tables::table::Table;
 
 // What a way number names.
@@ -248,4 +252,66 @@ fn run_models(way: Way, upstream: Model, target: Model, stream: &[u8], out: &mut
         target: offered,
     };
     run_within(shim, &fences[..n], &targets[..k], stream, out)
+}
+
+// The run onto a target's text, with the upstream model read.
+fn run_onto<'a>(
+    way: Way,
+    upstream: Model,
+    target: &'a [u8],
+    stream: &'a [u8],
+    out: &mut [u8],
+) -> Answer
+    requires { ⌜ Whole upstream ⌝ }
+    ensures answer { λ r. ⌜ r ≡ answerOf (onto way (modelOf upstream) (now (target .entry)) (now (stream .entry))) (length (now (out .entry))) ⌝ }
+    ensures buffer { λ _. ⌜ now (out .exit) ≡ bufferOf (onto way (modelOf upstream) (now (target .entry)) (now (stream .entry))) (now (out .entry)) ⌝ }
+{
+    let reading = models::reader::read(target);
+    let verdict = reading.verdict;
+    match verdict {
+        Verdict::Refused(why) => Answer::Refused(why),
+        Verdict::Accepted => {
+            let model = reading.model;
+            run_models(way, upstream, model, stream, out)
+        }
+    }
+}
+
+fn run_under<'a>(
+    way: Way,
+    upstream: &'a [u8],
+    target: &'a [u8],
+    stream: &'a [u8],
+    out: &mut [u8],
+) -> Answer
+    ensures answer { λ r. ⌜ r ≡ answerOf (under way (now (upstream .entry)) (now (target .entry)) (now (stream .entry))) (length (now (out .entry))) ⌝ }
+    ensures buffer { λ _. ⌜ now (out .exit) ≡ bufferOf (under way (now (upstream .entry)) (now (target .entry)) (now (stream .entry))) (now (out .entry)) ⌝ }
+{
+    let reading = models::reader::read(upstream);
+    let verdict = reading.verdict;
+    match verdict {
+        Verdict::Refused(why) => Answer::Refused(why),
+        Verdict::Accepted => {
+            let model = reading.model;
+            run_onto(way, model, target, stream, out)
+        }
+    }
+}
+
+// The direct run of a stream: two model texts, a way by its number, the stream, and the buffer that gets the output.
+pub fn run<'a>(
+    way: u64,
+    upstream: &'a [u8],
+    target: &'a [u8],
+    stream: &'a [u8],
+    out: &mut [u8],
+) -> Answer
+    ensures answer { λ r. ⌜ r ≡ answerOf (outcome way (now (upstream .entry)) (now (target .entry)) (now (stream .entry))) (length (now (out .entry))) ⌝ }
+    ensures buffer { λ _. ⌜ now (out .exit) ≡ bufferOf (outcome way (now (upstream .entry)) (now (target .entry)) (now (stream .entry))) (now (out .entry)) ⌝ }
+{
+    let read = way_of(way);
+    match read {
+        WayRead::Nothing => Answer::Refused(Refusal::OutOfRange),
+        WayRead::Is(is) => run_under(is, upstream, target, stream, out),
+    }
 }

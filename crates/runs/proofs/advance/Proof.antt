@@ -68,7 +68,7 @@ returns-2 c =
     let a = o .before .before .before .before .before .args in
     c .access .ensures
     ∙ sym (by-byte (a .shim .way) (side (a .shim .upstream) (now (a .fences))) (side (a .shim .target) (now (a .targets))) (a .situation) (a .at) (a .byte)
-      (sym (o .before .before .read-byte .ensures) ∙ o .read .given .1 ∙ ap Byte.Is (c .before .before .operation .given .1)))
+    (sym (o .before .before .read-byte .ensures) ∙ o .read .given .1 ∙ ap Byte.Is (c .before .before .operation .given .1)))
 
 returns-3 : tie.Need-returns-3
 returns-3 c =
@@ -76,8 +76,8 @@ returns-3 c =
     let a = o .before .before .before .before .before .args in
     c .ask .ensures
     ∙ sym (by-byte (a .shim .way) (side (a .shim .upstream) (now (a .fences))) (side (a .shim .target) (now (a .targets))) (a .situation) (a .at) (a .byte)
-      (sym (o .before .before .read-byte .ensures) ∙ o .read .given .1 ∙ ap Byte.Is (c .before .before .operation2 .given .1))
-      ∙ fence-asks (a .shim .way) (side (a .shim .upstream) (now (a .fences))) (side (a .shim .target) (now (a .targets))) (a .situation) (a .at) _)
+    (sym (o .before .before .read-byte .ensures) ∙ o .read .given .1 ∙ ap Byte.Is (c .before .before .operation2 .given .1))
+    ∙ fence-asks (a .shim .way) (side (a .shim .upstream) (now (a .fences))) (side (a .shim .target) (now (a .targets))) (a .situation) (a .at) _)
 
 pub advance-spec : {M : Type 1} → statement M
 advance-spec =

@@ -37,9 +37,11 @@ loop-less c = search needs
 loop-again : tie.Need-loop-again Inv-loop μ-loop
 loop-again c =
     let a = c .before .before .before .before .before .args in
-    let l = c .before .before .before .loop in
-    (search needs, search needs,
-    omega (arith, l .inv .2, fences-next (now (a .bytes)) (l .i) (c .before .before .loop-test .taken), c .one-if-fence .ensures .0))
+    let l = c .before .before .before .loop in (
+      search needs,
+      search needs,
+      omega (arith, l .inv .2, fences-next (now (a .bytes)) (l .i) (c .before .before .loop-test .taken), c .one-if-fence .ensures .0),
+    )
 
 returns : tie.Need-returns Inv-loop μ-loop
 returns c =

@@ -36,18 +36,20 @@ returns : tie.Need-returns
 returns c =
     let a = c .before .before .before .before .before .before .before .before .before .before .before .args in
     let w = c .before .before .write-out in
-    let e = sym (c .before .before .before .before .before .before .before .ended .given .1) in
-    (w .ensures .0
-    ∙ ap (λ (n : ℕ). writing (take (c .before .before .before .before .before .before .before .ended .given .0 .0) (now (a .buffer))) n 0 (length (now (a .out)))) (c .before .before .before .before .fences-in .ensures)
-    ∙ ap (λ (x : Ended). answerOf (given x (now (a .buffer))) (length (now (a .out)))) e,
-    w .ensures .1 ∙ ap (λ (x : Ended). bufferOf (given x (now (a .buffer))) (now (a .out))) e)
+    let e = sym (c .before .before .before .before .before .before .before .ended .given .1) in (
+      w .ensures .0
+          ∙ ap (λ (n : ℕ). writing (take (c .before .before .before .before .before .before .before .ended .given .0 .0) (now (a .buffer))) n 0 (length (now (a .out)))) (c .before .before .before .before .fences-in .ensures)
+          ∙ ap (λ (x : Ended). answerOf (given x (now (a .buffer))) (length (now (a .out)))) e,
+      w .ensures .1 ∙ ap (λ (x : Ended). bufferOf (given x (now (a .buffer))) (now (a .out))) e,
+    )
 
 returns-2 : tie.Need-returns-2
 returns-2 c =
     let a = c .before .before .before .before .before .args in
-    let e = sym (c .before .ended2 .given .1) in
-    (ap (λ (x : Ended). answerOf (given x (now (a .buffer))) (length (now (a .out)))) e,
-    ap (λ (x : Ended). bufferOf (given x (now (a .buffer))) (now (a .out))) e)
+    let e = sym (c .before .ended2 .given .1) in (
+      ap (λ (x : Ended). answerOf (given x (now (a .buffer))) (length (now (a .out)))) e,
+      ap (λ (x : Ended). bufferOf (given x (now (a .buffer))) (now (a .out))) e,
+    )
 
 pub finish-spec : {M : Type 1} → statement M
 finish-spec =

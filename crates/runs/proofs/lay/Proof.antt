@@ -63,10 +63,11 @@ same-length-2 c = search needs
 returns-3 : tie.Need-returns-3
 returns-3 c =
     let a = c .before .before .before .before .before .args in
-    let e = sym (c .before .before .step3 .given .1) in
-    (ap (λ (m : Move). turned m (a .written)) e,
-    ap (λ (x : ℕ). set (set (now (a .buffer)) (a .written) x) (a .written + 1) (a .byte)) (c .byte-of .ensures)
-    ∙ ap (λ (m : Move). laid m (a .byte) (a .written) (now (a .buffer))) e)
+    let e = sym (c .before .before .step3 .given .1) in (
+      ap (λ (m : Move). turned m (a .written)) e,
+      ap (λ (x : ℕ). set (set (now (a .buffer)) (a .written) x) (a .written + 1) (a .byte)) (c .byte-of .ensures)
+          ∙ ap (λ (m : Move). laid m (a .byte) (a .written) (now (a .buffer))) e,
+    )
 
 returns-4 : tie.Need-returns-4
 returns-4 c =

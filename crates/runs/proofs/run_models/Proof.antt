@@ -47,9 +47,10 @@ returns-2 : tie.Need-returns-2
 returns-2 c =
     let a = c .before .before .before .before .before .before .before .before .before .before .before .before .before .args in
     let r = c .before .before .run-within in
-    let e = within (now (a .stream)) (direct (a .way) (modelOf (a .upstream)) (modelOf (a .target)) (now (a .stream))) (c .before .before .before .before .before .before .before .before .before .before .if1 .left) in
-    (r .ensures .0 ∙ ap (λ (x : Outcome). answerOf x (length (now (a .out)))) (sym e),
-    r .ensures .1 ∙ ap (λ (x : Outcome). bufferOf x (now (a .out))) (sym e))
+    let e = within (now (a .stream)) (direct (a .way) (modelOf (a .upstream)) (modelOf (a .target)) (now (a .stream))) (c .before .before .before .before .before .before .before .before .before .before .if1 .left) in (
+      r .ensures .0 ∙ ap (λ (x : Outcome). answerOf x (length (now (a .out)))) (sym e),
+      r .ensures .1 ∙ ap (λ (x : Outcome). bufferOf x (now (a .out))) (sym e),
+    )
 
 pub run-models-spec : {M : Type 1} → statement M
 run-models-spec =

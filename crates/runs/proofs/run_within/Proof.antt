@@ -30,10 +30,11 @@ returns c =
     let a = c .before .before .before .before .before .before .before .before .before .before .before .before .args in
     let f = c .before .before .finish in
     let e =
-        direct-moves (a .shim .way) (side (a .shim .upstream) (now (a .fences))) (side (a .shim .target) (now (a .targets))) (now (a .stream))
-        ∙ c .before .before .before .before .before .before .run-stream .ensures .gives in
-    (f .ensures .0 ∙ ap (λ (x : Outcome). answerOf x (length (now (a .out)))) (sym e),
-    f .ensures .1 ∙ ap (λ (x : Outcome). bufferOf x (now (a .out))) (sym e))
+    direct-moves (a .shim .way) (side (a .shim .upstream) (now (a .fences))) (side (a .shim .target) (now (a .targets))) (now (a .stream))
+    ∙ c .before .before .before .before .before .before .run-stream .ensures .gives in (
+      f .ensures .0 ∙ ap (λ (x : Outcome). answerOf x (length (now (a .out)))) (sym e),
+      f .ensures .1 ∙ ap (λ (x : Outcome). bufferOf x (now (a .out))) (sym e),
+    )
 
 pub run-within-spec : {M : Type 1} → statement M
 run-within-spec =
