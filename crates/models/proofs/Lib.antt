@@ -10,3 +10,4 @@ pub mod Reread
 pub mod Names
 pub mod Pushed
 pub mod Words
+pub mod Putting

@@ -4,3 +4,4 @@ pub mod Text
 pub mod Form
 pub mod Scan
 pub mod Reading
+pub mod Writing

@@ -2,3 +2,4 @@
 pub mod model;
 pub mod reader;
 mod scan;
+pub mod writer;
