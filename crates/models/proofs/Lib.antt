@@ -11,3 +11,5 @@ pub mod Names
 pub mod Pushed
 pub mod Words
 pub mod Putting
+pub mod RoundTrip
+pub mod BuiltIns

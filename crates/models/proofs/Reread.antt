@@ -161,7 +161,7 @@ pub fences-split : (xs ys : List Fence) → fencesText (xs ++ ys) ≡ fencesText
 fences-split [] ys = refl
 fences-split (f ∷ xs) ys = ap (λ (l : List ℕ). fenceText f ++ l) (fences-split xs ys) ∙ sym (append-assoc (fenceText f) (fencesText xs) (fencesText ys))
 
-fence-long : (f : Fence) → length (fenceText f) ≡ 6 + (length (f .name) + 1) + 20
+pub fence-long : (f : Fence) → length (fenceText f) ≡ 6 + (length (f .name) + 1) + 20
 fence-long f = omega (arith, length-append (f .name) (bytes " " ++ tablePart (f .table)))
 
 module _ (d : Description) where

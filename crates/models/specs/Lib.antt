@@ -5,3 +5,5 @@ pub mod Form
 pub mod Scan
 pub mod Reading
 pub mod Writing
+pub mod BuiltIns
+pub mod Numbers
