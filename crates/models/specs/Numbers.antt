@@ -59,6 +59,6 @@ modelFrom n = record {
   ppo = record { packed = number n 1 };
   fences = number n 2;
   tables = number n 4 ∷ number n 6 ∷ number n 8 ∷ replicate 13 0;
-  name = nameFrom (number n 0 % 16);
+  name = nameFrom (getD modelNumbers (9 * n) 0 % 16);
   names = nameFrom (number n 3 % 16) ∷ nameFrom (number n 5 % 16) ∷ nameFrom (number n 7 % 16) ∷ replicate 13 (filled []);
 }

@@ -429,3 +429,41 @@ fn built_name(index: u64) -> Name
     let start = (index % 16) as usize * 16;
     reader::first_bytes(&names[start..], 16)
 }
+
+fn built_model(n: usize) -> Model
+    requires { ⌜ n < 16 ⌝ }
+    ensures { λ r. ⌜ r ≡ modelFrom n ⌝ }
+{
+    let numbers = MODELS;
+    let row = 9 * n;
+    let name = built_name(numbers[row]);
+    let first = built_name(numbers[row + 3]);
+    let second = built_name(numbers[row + 5]);
+    let third = built_name(numbers[row + 7]);
+    let ppo = numbers[row + 1];
+    let fences = numbers[row + 2] as usize;
+    let tables = [numbers[row + 4], numbers[row + 6], numbers[row + 8]];
+    let mut model = reader::bare_model(name, Table { packed: ppo });
+    model.fences = fences;
+    model.tables[0] = tables[0];
+    model.tables[1] = tables[1];
+    model.tables[2] = tables[2];
+    model.names[0] = first;
+    model.names[1] = second;
+    model.names[2] = third;
+    model
+}
+
+// The built-in model of a number.
+pub fn built_in(number: u64) -> Reading
+    ensures { λ r. ⌜ r ≡ builtInReading number ⌝ }
+{
+    if 15 < number {
+        return reader::refuse(Refusal::OutOfRange);
+    }
+    let model = built_model(number as usize);
+    Reading {
+        verdict: Verdict::Accepted,
+        model,
+    }
+}
