@@ -13,3 +13,5 @@ pub mod Words
 pub mod Putting
 pub mod RoundTrip
 pub mod BuiltIns
+pub mod Compared
+pub mod WrittenBack

@@ -6,4 +6,6 @@ pub mod Scan
 pub mod Reading
 pub mod Writing
 pub mod BuiltIns
+pub mod Calls
+pub mod Comparison
 pub mod Numbers
