@@ -129,7 +129,7 @@ fn bad_block(image: &[u8]) -> Option<usize> {
 /// lower, and what is said of the later ones does not matter.
 fn is_barred(image: &[u8], at: usize) -> bool {
     let in_block = at % BLOCK;
-    if in_block < CONTENTS.start || in_block >= CHECK {
+    if !(CONTENTS.start..CHECK).contains(&in_block) {
         return false; // the block's number and its check: refusal 10
     }
     if in_block >= CONTENTS.end {
@@ -149,7 +149,7 @@ fn is_barred_in_header(image: &[u8], at: usize) -> bool {
     match at {
         FORM_AT => value != FORM as usize,
         WAY_AT => value > 1,
-        STATES_AT => value < 1 || value > STATES || image.len() != blocks_for(value) * BLOCK,
+        STATES_AT => !(1..=STATES).contains(&value) || image.len() != blocks_for(value) * BLOCK,
         UPSTREAM_FENCES_AT | TARGET_FENCES_AT => value > MODEL_FENCES,
         UPSTREAM_NAME_AT..TARGET_NAME_AT => is_barred_in_name(&image[UPSTREAM_NAME_AT..=at]),
         TARGET_NAME_AT..HEADER_END => is_barred_in_name(&image[TARGET_NAME_AT..=at]),
@@ -172,7 +172,7 @@ fn is_barred_in_state(image: &[u8], at: usize, state: usize, in_state: usize) ->
     if state >= states as usize {
         return value != 0;
     }
-    let is_fence_byte = in_state < 2 * ACCESSES && in_state % 2 == 0;
+    let is_fence_byte = in_state < 2 * ACCESSES && in_state.is_multiple_of(2);
     if is_fence_byte {
         return value >= image[TARGET_FENCES_AT] && value != NO_FENCE && value != REFUSED;
     }

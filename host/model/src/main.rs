@@ -69,8 +69,8 @@ fn answer(words: &[&str]) -> Printed {
         ["situation", way, up, target, stream] => {
             with_shim([way, up, target], |shim| situation(shim, stream))
         }
-        ["situations", way, up, target] => with_shim([way, up, target], |shim| situations(shim)),
-        ["machine", way, up, target] => with_shim([way, up, target], |shim| machine(shim)),
+        ["situations", way, up, target] => with_shim([way, up, target], situations),
+        ["machine", way, up, target] => with_shim([way, up, target], machine),
         ["image", way, up, target] => {
             with_shim([way, up, target], |shim| Ok(hexadecimal(&image_of(shim)?)))
         }
