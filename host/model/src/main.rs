@@ -29,7 +29,7 @@ number of a built-in model or a file with a text. STREAM is the stream itself,
 or @FILE. A refusal prints `refused N at K`.
 ";
 
-/// So far `machine` counts beyond the limit, to show how far over it lies.
+/// `machine` counts on past the limit, to tell by how much a pair of models is over it.
 const COUNTED_SITUATIONS: usize = 1 << 16;
 
 enum Stop {
@@ -189,14 +189,6 @@ fn situation(shim: &Shim, stream: &str) -> Printed {
     Ok(situation_lines(&Situation::after(shim, &input, &output)).into_bytes())
 }
 
-fn explored(shim: &Shim) -> Result<Explored, Stop> {
-    explore(shim, COUNTED_SITUATIONS).ok_or_else(|| {
-        Stop::Usage(format!(
-            "more than {COUNTED_SITUATIONS} situations; refused 8 at 0"
-        ))
-    })
-}
-
 fn word_of(stream: &[Operation]) -> String {
     if stream.is_empty() {
         "empty".to_string()
@@ -206,30 +198,27 @@ fn word_of(stream: &[Operation]) -> String {
 }
 
 fn situations(shim: &Shim) -> Printed {
+    let explored = explore(shim, limits::SITUATIONS).ok_or(Refusal::TooManySituations)?;
     let mut lines = String::new();
-    for (number, arrival) in explored(shim)?.arrivals.iter().enumerate() {
-        lines += &format!(
-            "{number} {}\n{}",
-            word_of(&arrival.input),
-            situation_lines(&arrival.situation)
-        );
+    for (number, arrival) in explored.arrivals.iter().enumerate() {
+        let stream = word_of(&arrival.input);
+        lines += &format!("{number} {stream}\n{}", situation_lines(&arrival.situation));
     }
     Ok(lines.into_bytes())
 }
 
 fn machine(shim: &Shim) -> Printed {
-    let explored = explored(shim)?;
+    let Some(explored) = explore(shim, COUNTED_SITUATIONS) else {
+        let refusal = refusal_line(Refusal::TooManySituations);
+        return Ok(format!("situations over {COUNTED_SITUATIONS}\n{refusal}").into_bytes());
+    };
     let classes = classes(&explored.rows);
     let states = merged(&explored.rows, &classes).len();
-    let mut lines = format!("situations {}\n", explored.arrivals.len());
-    match Machine::generate(shim) {
-        Err(refusal) => lines += &format!("states {states}\n{}", refusal_line(refusal)),
-        Ok(machine) => {
-            lines += &machine_listing(&machine);
-            lines += &first_arrivals(&explored, &classes, states);
-        }
-    }
-    Ok(lines.into_bytes())
+    let told = match Machine::generate(shim) {
+        Err(refusal) => format!("states {states}\n{}", refusal_line(refusal)),
+        Ok(machine) => machine_listing(&machine) + &first_arrivals(&explored, &classes, states),
+    };
+    Ok(format!("situations {}\n{told}", explored.arrivals.len()).into_bytes())
 }
 
 fn first_arrivals(explored: &Explored, classes: &[usize], states: usize) -> String {

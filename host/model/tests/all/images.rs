@@ -167,6 +167,11 @@ fn what_is_not_barred() {
     assert_eq!(read(&refusing).number, 0);
     assert_eq!(image_run(&refusing, 0, b"sl").0, done(2, 0, 1));
     assert_eq!(image_run(&refusing, 0, b"l").0, refused(6, 0));
+    // A full way with another fence than the last, a machine of other states.
+    let other_fence = with(image_of(1, 1, 13), &[(514, 0), (515, 0)]);
+    assert_eq!(read(&other_fence).number, 0);
+    let never_leaves = with(tso_on_arm(), &[(515, 0), (517, 0), (519, 0), (521, 0)]);
+    assert_eq!(read(&never_leaves).number, 0);
     // A state more, all zero: fence 0 and next 0.
     let more = with(tso_on_arm(), &[(4, 4)]);
     assert_eq!(read(&more).number, 0);
