@@ -14,7 +14,7 @@ fn answer_to(bytes: &[u8]) -> shim_model::answer::Answer {
 
 const PPO: &str = "ppo ---- ---- ---- ----\n";
 
-/// A text with the given fence names, all of the default table of nothing.
+/// A text with full fences of the given names.
 fn with_fences(names: &[String]) -> String {
     let lines: String = names
         .iter()
@@ -59,32 +59,12 @@ fn built_in_numbers_out_of_range() {
     }
 }
 
+/// The texts typed a second time, whole.
 #[test]
-fn built_in_names_and_fence_names() {
-    let told = |number| {
-        let model = builtin_model(number);
-        let fences: Vec<String> = model.fences.into_iter().map(|fence| fence.name).collect();
-        format!("{} {}", model.name, fences.join(","))
-    };
-    let upstream = [
-        "SC ",
-        "TSO mfence",
-        "PLO mfence",
-        "PSO mfence",
-        "LSO mfence",
-        "RMO ",
-    ];
-    let power = ["POWERA lwsync,sync", "POWER lwsync,sync", "ARM dmb"];
-    let targets =
-        ["TSO", "PLO", "PSO", "LSO", "RMO"].map(|name| format!("{name} msfence,mlfence,mfence"));
-    let mut expected: Vec<String> = upstream
-        .iter()
-        .chain(&power)
-        .map(|told| told.to_string())
-        .collect();
-    expected.extend(targets);
-    expected.extend(["POWER lwsync,sync", "ARM dmb"].map(String::from));
-    assert_eq!((0..16).map(told).collect::<Vec<String>>(), expected);
+fn built_in_texts_cell_by_cell() {
+    let typed = include_str!("builtins.txt").split_inclusive("end\n");
+    let typed: Vec<&[u8]> = typed.map(str::as_bytes).collect();
+    assert_eq!((0..16).map(builtin_text).collect::<Vec<_>>(), typed);
 }
 
 #[test]
