@@ -229,11 +229,23 @@ pub fn write_seeds(folder: &str) -> Result<()> {
     let new = Seed::default;
     let texts = || (0..16).map(builtin_text);
     let numbers = [0, 1, 7, 15, 16, 256, u64::MAX].into_iter();
-    write(folder, "builtin", numbers.map(|n| new().number(n).room(ROOM)).collect())?;
+    write(
+        folder,
+        "builtin",
+        numbers.map(|n| new().number(n).room(ROOM)).collect(),
+    )?;
     let models = texts().chain(AT_THE_LIMITS.map(|(upstream, _)| upstream.to_vec()));
-    write(folder, "model", models.map(|t| new().room(ROOM).rest(&t)).collect())?;
+    write(
+        folder,
+        "model",
+        models.map(|t| new().room(ROOM).rest(&t)).collect(),
+    )?;
     let both = texts().zip(texts().skip(1));
-    write(folder, "compare", both.map(|(a, b)| new().region(&a).rest(&b)).collect())?;
+    write(
+        folder,
+        "compare",
+        both.map(|(a, b)| new().region(&a).rest(&b)).collect(),
+    )?;
     let (mut runs, mut machines) = (vec![], vec![]);
     let (mut reads, mut image_runs, mut lists) = (vec![], vec![], vec![]);
     for (upstream, target, way, stream) in RUNS {

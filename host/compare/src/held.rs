@@ -5,9 +5,49 @@
 use crate::border::{self, filled, Back};
 use shim_model::answer::Answer;
 use shim_model::calls;
+use std::fs::File;
+use std::io::{BufWriter, Write};
 use std::sync::atomic::{AtomicU64, Ordering};
+use std::sync::Mutex;
 
 static CALLS: AtomicU64 = AtomicU64::new(0);
+static RECORD: Mutex<Option<BufWriter<File>>> = Mutex::new(None);
+
+/// From here on every call that is compared is written to the file, for
+/// `host/replay.c` to make again on another processor.
+pub fn record_to(file: File) {
+    *RECORD.lock().expect("one thread") = Some(BufWriter::new(file));
+}
+
+/// Ends the record.
+pub fn recorded() {
+    if let Some(mut record) = RECORD.lock().expect("one thread").take() {
+        record.flush().expect("the record is written");
+    }
+}
+
+/// Numbers in eight bytes, high byte first; a region's length goes before it.
+fn entry(name: &str, numbers: &[u64], regions: &[&[u8]], wanted: &Back) -> Vec<u8> {
+    let mut bytes = Vec::new();
+    let written = &wanted.out[..wanted.answer[2] as usize];
+    let put_region = |bytes: &mut Vec<u8>, region: &[u8]| {
+        bytes.extend((region.len() as u64).to_be_bytes());
+        bytes.extend(region);
+    };
+    put_region(&mut bytes, name.as_bytes());
+    let room = wanted.out.len() as u64;
+    for number in numbers.iter().chain([&room]) {
+        bytes.extend(number.to_be_bytes());
+    }
+    for region in regions {
+        put_region(&mut bytes, region);
+    }
+    for number in wanted.answer.iter().chain(&wanted.further) {
+        bytes.extend(number.to_be_bytes());
+    }
+    put_region(&mut bytes, written);
+    bytes
+}
 
 /// How many calls have been compared.
 pub fn calls_made() -> u64 {
@@ -41,6 +81,10 @@ fn held(name: &str, numbers: &[u64], regions: &[&[u8]], got: Back, wanted: Back)
         }
         panic!("{told}");
     }
+    if let Some(record) = RECORD.lock().expect("one thread").as_mut() {
+        let entry = entry(name, numbers, regions, &wanted);
+        record.write_all(&entry).expect("the record is written");
+    }
     got
 }
 
@@ -57,7 +101,13 @@ fn modelled(room: usize, call: impl FnOnce(&mut [u8]) -> (Answer, Vec<u64>)) -> 
 
 pub fn builtin(number: u64, room: usize) -> Back {
     let wanted = modelled(room, |out| (calls::builtin(number, out), vec![]));
-    held("builtin", &[number], &[], border::builtin(number, room), wanted)
+    held(
+        "builtin",
+        &[number],
+        &[],
+        border::builtin(number, room),
+        wanted,
+    )
 }
 
 pub fn model(text: &[u8], room: usize) -> Back {
@@ -95,7 +145,13 @@ pub fn image_read(image: &[u8], room: usize) -> Back {
         let (answer, header) = calls::image_read(image, out);
         (answer, header.to_vec())
     });
-    held("image_read", &[], &[image], border::image_read(image, room), wanted)
+    held(
+        "image_read",
+        &[],
+        &[image],
+        border::image_read(image, room),
+        wanted,
+    )
 }
 
 pub fn image_run(image: &[u8], start: u64, stream: &[u8], room: usize) -> Back {

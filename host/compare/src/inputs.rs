@@ -1,6 +1,7 @@
 //! Good, random and damaged input.
 
 use shim_model::image::{self, BLOCK};
+use shim_model::limits::MODEL_FENCES;
 use shim_model::model::Model;
 use shim_model::random::Random;
 use shim_model::rule::Way;
@@ -50,7 +51,7 @@ pub fn name(random: &mut Random) -> String {
     (0..length).map(byte).collect()
 }
 
-/// A model with so many fences, whose names may repeat but seldom do.
+/// A model with so many fences, whose names hardly ever repeat.
 pub fn model(random: &mut Random, fences: usize) -> Model {
     let (ppo_one_in, fence_one_in) = (1 + random.below(4), 1 + random.below(6));
     let mut model = random.model(fences, ppo_one_in, fence_one_in);
@@ -66,6 +67,17 @@ pub fn model_text(random: &mut Random) -> Vec<u8> {
     let most = [3, 5, 17][random.below(3)];
     let fences = random.below(most);
     text::write(&model(random, fences))
+}
+
+/// A text in which up to three fences have the names of others.
+pub fn repeating_text(random: &mut Random) -> Vec<u8> {
+    let fences = 2 + random.below(MODEL_FENCES - 1);
+    let mut model = model(random, fences);
+    for _ in 0..=random.below(3) {
+        let (from, to) = (random.below(fences), random.below(fences));
+        model.fences[to].name = model.fences[from].name.clone();
+    }
+    text::write(&model)
 }
 
 /// A built-in text or a random one.

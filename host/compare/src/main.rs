@@ -1,14 +1,17 @@
 //! `shim-compare gate` tries everything with fixed seeds. `shim-compare soak
 //! MINUTES [SEED]` goes on with seeds of its own, and tells each. `shim-compare
-//! seeds FOLDER` writes the fuzzer's first inputs. A difference stops the
-//! program, with the call that shows it.
+//! record FILE` writes calls to a file for `host/replay.c`, and `shim-compare
+//! seeds FOLDER` the fuzzer's first inputs. A difference stops the program, with
+//! the call that shows it.
 
 use shim_compare::parts::{Part, DRAWN, WHOLE};
 use shim_compare::{fuzz, held};
 use shim_model::random::Random;
+use std::fs::File;
 use std::time::{Duration, Instant, SystemTime, UNIX_EPOCH};
 
 const GATE_SEED: u64 = 1;
+const RECORD_ROUNDS: usize = 6;
 
 fn main() {
     let arguments: Vec<String> = std::env::args().skip(1).collect();
@@ -17,9 +20,12 @@ fn main() {
         ["gate"] => gate(),
         ["soak", minutes] => soak(number(minutes), new_seed()),
         ["soak", minutes, seed] => soak(number(minutes), number(seed)),
+        ["record", file] => record(File::create(file).expect("a file to write to")),
         ["seeds", folder] => fuzz::write_seeds(folder).expect("the seeds are written"),
         _ => {
-            eprintln!("usage: shim-compare gate | soak MINUTES [SEED] | seeds FOLDER");
+            eprintln!(
+                "usage: shim-compare gate | soak MINUTES [SEED] | record FILE | seeds FOLDER"
+            );
             std::process::exit(2);
         }
     }
@@ -45,6 +51,18 @@ fn gate() {
         tried(part, GATE_SEED, part.rounds);
     }
     println!("compare: {} calls agree", held::calls_made());
+}
+
+/// What replays on an emulator within seconds: built-ins, limits, and a little of all that is drawn.
+fn record(file: File) {
+    held::record_to(file);
+    for part in &WHOLE[..2] {
+        tried(part, GATE_SEED, part.rounds);
+    }
+    for part in DRAWN {
+        tried(part, GATE_SEED, part.rounds.min(RECORD_ROUNDS));
+    }
+    held::recorded();
 }
 
 fn new_seed() -> u64 {

@@ -129,10 +129,16 @@ fn texts_at_the_limits(random: &mut Random) {
 fn lengths_at_the_limits(random: &mut Random) {
     let (upstream, target) = (builtin_text(0), builtin_text(15));
     let image = written(&held::generate(1, &upstream, &target, ROOM)).to_vec();
-    for length in [STREAM_OPERATIONS - 1, STREAM_OPERATIONS, STREAM_OPERATIONS + 1] {
+    for length in [
+        STREAM_OPERATIONS - 1,
+        STREAM_OPERATIONS,
+        STREAM_OPERATIONS + 1,
+    ] {
         // Every access but the first gets a fence: the longest output there is.
         let stream = vec![b'l'; length];
-        around(random, |room| held::run(1, &upstream, &target, &stream, room));
+        around(random, |room| {
+            held::run(1, &upstream, &target, &stream, room)
+        });
         for start in [0, 1] {
             around(random, |room| held::image_run(&image, start, &stream, room));
         }
@@ -142,7 +148,15 @@ fn lengths_at_the_limits(random: &mut Random) {
         held::run(1, &upstream, &target, &unread, ROOM);
         held::image_run(&image, 0, &unread, ROOM);
     }
-    for length in [0, 1, BLOCK - 1, BLOCK, BLOCK + 1, IMAGE_BYTES, IMAGE_BYTES + 1] {
+    for length in [
+        0,
+        1,
+        BLOCK - 1,
+        BLOCK,
+        BLOCK + 1,
+        IMAGE_BYTES,
+        IMAGE_BYTES + 1,
+    ] {
         let mut resized = image.clone();
         resized.resize(length, 0);
         for bytes in [resized.clone(), renewed(resized)] {
@@ -150,7 +164,12 @@ fn lengths_at_the_limits(random: &mut Random) {
             held::image_run(&bytes, 0, b"l", ROOM);
         }
     }
-    for length in [0, LIST_INPUT_BYTES - 1, LIST_INPUT_BYTES, LIST_INPUT_BYTES + 1] {
+    for length in [
+        0,
+        LIST_INPUT_BYTES - 1,
+        LIST_INPUT_BYTES,
+        LIST_INPUT_BYTES + 1,
+    ] {
         let stream = vec![b'l'; length.saturating_sub(1_000)];
         let mut input = list_input(&upstream, &target, Way::Full, &stream);
         input.resize(length, b'\n');
@@ -208,7 +227,9 @@ fn every_pair(random: &mut Random) {
             for way in WAYS {
                 for length in [0, 1, 2, 7, 40] {
                     let stream = stream_for(random, &upstream, length);
-                    around(random, |room| held::run(way, &upstream, &target, &stream, room));
+                    around(random, |room| {
+                        held::run(way, &upstream, &target, &stream, room)
+                    });
                 }
                 let stream = stream_for(random, &upstream, 60);
                 machine(random, way, &upstream, &target, &stream);
@@ -256,7 +277,11 @@ fn outputs_keep_pairs(upstream: &Model, target: &Model, stream: &[Operation], mo
         assert!(keeps(upstream, target, stream, &output), "a pair is short");
         if way == 1 {
             let least = fewest(upstream, target, stream, most_in_gap);
-            assert_eq!(least, Some(back.answer[3] as usize), "fewer fences would do");
+            assert_eq!(
+                least,
+                Some(back.answer[3] as usize),
+                "fewer fences would do"
+            );
         }
     }
 }
@@ -305,7 +330,15 @@ fn image_at_every_byte(random: &mut Random) {
     for at in 0..sound.len() {
         held::image_read(&sound[..at], ROOM);
         let own = sound[at];
-        for value in [own ^ 1, own.wrapping_add(1), 0, 0xFD, 0xFE, 0xFF, random.byte()] {
+        for value in [
+            own ^ 1,
+            own.wrapping_add(1),
+            0,
+            0xFD,
+            0xFE,
+            0xFF,
+            random.byte(),
+        ] {
             let mut changed = sound.clone();
             changed[at] = value;
             for image in [renewed(changed.clone()), changed] {
@@ -341,7 +374,9 @@ fn random_models(random: &mut Random) {
     for way in WAYS {
         let length = random.below(60);
         let stream = stream_for(random, &upstream, length);
-        around(random, |room| held::run(way, &upstream, &target, &stream, room));
+        around(random, |room| {
+            held::run(way, &upstream, &target, &stream, room)
+        });
         machine(random, way, &upstream, &target, &stream);
     }
 }
@@ -354,7 +389,9 @@ fn long_streams(random: &mut Random) {
     };
     let stream = stream_for(random, &upstream, length);
     for way in WAYS {
-        around(random, |room| held::run(way, &upstream, &target, &stream, room));
+        around(random, |room| {
+            held::run(way, &upstream, &target, &stream, room)
+        });
         let generated = held::generate(way, &upstream, &target, ROOM);
         if done(&generated) {
             let image = written(&generated);
@@ -376,7 +413,10 @@ fn fewest_fences(random: &mut Random) {
 
 fn damaged_texts(random: &mut Random) {
     let (sound, other) = (some_text(random), some_text(random));
-    let broken = damaged(random, &sound);
+    let broken = match random.below(3) {
+        0 => repeating_text(random),
+        _ => damaged(random, &sound),
+    };
     around(random, |room| held::model(&broken, room));
     held::compare(&broken, &other);
     held::compare(&other, &broken);
@@ -409,7 +449,9 @@ fn damaged_streams(random: &mut Random) {
     let sound = stream_for(random, &upstream, length);
     let broken = damaged(random, &sound);
     for way in WAYS {
-        around(random, |room| held::run(way, &upstream, &target, &broken, room));
+        around(random, |room| {
+            held::run(way, &upstream, &target, &broken, room)
+        });
         let image = held::generate(way, &upstream, &target, ROOM);
         if done(&image) {
             held::image_run(written(&image), 0, &broken, ROOM);
