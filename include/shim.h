@@ -175,7 +175,8 @@ uint64_t shim_image_run(const uint8_t *image, size_t image_length, uint64_t star
  *   input            at most SHIM_LIST_INPUT_LIMIT bytes
  *   out, out_length  for the listing; SHIM_LIST_OUT is enough
  * Refusals: 1 input; 2 at 0 if the input has another shape; upstream text: 1, 2, 3; target text: 1, 2, 3; stream: 1, then
- * the earliest of 4, 5, 6; 8; 9; 7. A refusal's line is the caller's to print.
+ * the earliest of 4, 5, 6; 8; 9; 7. A refusal's line is the caller's to print. The answer has the bytes written and the
+ * fences of the listing's run.
  */
 uint64_t shim_list(const uint8_t *input, size_t input_length, uint8_t *out, size_t out_length, struct shim_answer *answer);
 
