@@ -70,20 +70,19 @@ fn new_seed() -> u64 {
     since.map_or(0, |since| since.as_nanos() as u64)
 }
 
-/// Parts in turn, each time with the next seed, until the time is over.
+/// All parts with one seed, then with the next, until the time is over. A
+/// difference is met again by beginning with the seed that was told last.
 fn soak(minutes: u64, first_seed: u64) {
     let ends = Instant::now() + Duration::from_secs(60 * minutes);
     let mut seed = first_seed;
-    println!("soak: first seed {first_seed}");
     while Instant::now() < ends {
+        println!("seed {seed}");
         for part in WHOLE.iter().chain(DRAWN) {
-            println!("seed {seed}");
-            tried(part, seed, part.rounds);
-            seed = seed.wrapping_add(1);
-            if Instant::now() >= ends {
-                break;
+            if Instant::now() < ends {
+                tried(part, seed, part.rounds);
             }
         }
+        seed = seed.wrapping_add(1);
     }
     println!("soak: {} calls agree", held::calls_made());
 }
