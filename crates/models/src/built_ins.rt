@@ -5,11 +5,11 @@ ghost use lib.ListN.{length};
 ghost use Rattle.answers.specs.Written.{written, writing};
 ghost use Rattle.models.specs.Numbers.{nameFrom, modelFrom};
 ghost use Rattle.models.specs.BuiltIns.{builtInReading};
+use crate::held;
 use crate::model::Model;
 use crate::model::Name;
 use crate::model::Reading;
 use crate::model::Verdict;
-use crate::reader;
 use answers::Answer;
 use answers::Refusal;
 use tables::table::Table;
@@ -427,7 +427,7 @@ fn built_name(index: u64) -> Name
 {
     let names = NAMES;
     let start = (index % 16) as usize * 16;
-    reader::first_bytes(&names[start..], 16)
+    held::first_bytes(&names[start..], 16)
 }
 
 fn built_model(n: usize) -> Model
@@ -443,7 +443,7 @@ fn built_model(n: usize) -> Model
     let ppo = numbers[row + 1];
     let fences = numbers[row + 2] as usize;
     let tables = [numbers[row + 4], numbers[row + 6], numbers[row + 8]];
-    let mut model = reader::bare_model(name, Table { packed: ppo });
+    let mut model = held::bare_model(name, Table { packed: ppo });
     model.fences = fences;
     model.tables[0] = tables[0];
     model.tables[1] = tables[1];
@@ -459,7 +459,7 @@ pub fn built_in(number: u64) -> Reading
     ensures { λ r. ⌜ r ≡ builtInReading number ⌝ }
 {
     if 15 < number {
-        return reader::refuse(Refusal::OutOfRange);
+        return held::refuse(Refusal::OutOfRange);
     }
     let model = built_model(number as usize);
     Reading {

@@ -2,6 +2,7 @@
 pub mod built_ins;
 pub mod calls;
 pub mod comparison;
+mod held;
 pub mod model;
 pub mod reader;
 mod scan;

@@ -4,6 +4,7 @@ ghost use Prim.Native.Nat.{ℕ, _+_, _≤_, _<_};
 ghost use lib.ListN.{length, take, drop};
 ghost use Rattle.models.specs.Scan.{levelOf};
 ghost use Rattle.models.specs.Reading.{filled, nameIn, tableIn, sameBytes, among, bare, started, repeatOf, withFence, fenceFrom, refusing, finished, ended, linesFrom, reading, Told};
+use crate::held;
 use crate::model::Model;
 use crate::model::Name;
 use crate::model::Reading;
@@ -59,25 +60,11 @@ fn table_in(text: &[u8]) -> Table
     Table::of_levels(levels)
 }
 
-// The first bytes of a text as a name.
-pub fn first_bytes(text: &[u8], n: usize) -> Name
-    requires { ⌜ (n ≤ 16) × (n ≤ length (now text)) ⌝ }
-    ensures { λ r. ⌜ r ≡ filled (take n (now (text .entry))) ⌝ }
-{
-    let mut bytes = [0u8; 16];
-    let mut i = 0;
-    while i < n {
-        bytes[i] = text[i];
-        i += 1;
-    }
-    Name { bytes }
-}
-
 fn name_in(text: &[u8]) -> Name
     ensures { λ r. ⌜ r ≡ nameIn (now (text .entry)) ⌝ }
 {
     let n = scan::name_bytes(text, 0);
-    first_bytes(text, n)
+    held::first_bytes(text, n)
 }
 
 fn same_name(a: Name, b: Name) -> bool
@@ -109,30 +96,6 @@ fn is_among(name: Name, names: [Name; 16], count: usize) -> bool
     false
 }
 
-// A model without fences.
-pub fn bare_model(name: Name, ppo: Table) -> Model
-    ensures { λ r. ⌜ r ≡ bare name ppo ⌝ }
-{
-    let zeros = Name { bytes: [0; 16] };
-    Model {
-        ppo,
-        fences: 0,
-        tables: [0; 16],
-        name,
-        names: [zeros; 16],
-    }
-}
-
-pub fn refuse(why: Refusal) -> Reading
-    ensures { λ r. ⌜ r ≡ refusing why ⌝ }
-{
-    let model = bare_model(Name { bytes: [0; 16] }, Table::NONE);
-    Reading {
-        verdict: Verdict::Refused(why),
-        model,
-    }
-}
-
 fn finish(p: Progress) -> Reading
     ensures { λ r. ⌜ r ≡ finished p ⌝ }
 {
@@ -144,7 +107,7 @@ fn finish(p: Progress) -> Reading
             model,
         };
     }
-    refuse(Refusal::FenceNameRepeats(at))
+    held::refuse(Refusal::FenceNameRepeats(at))
 }
 
 fn repeat_place(p: Progress, name: Name, at: usize) -> usize
@@ -189,12 +152,12 @@ fn end(text: &[u8], p: Progress, at: usize) -> Reading
     ensures { λ r. ⌜ r ≡ ended (now (text .entry)) p at ⌝ }
 {
     match scan::follow(text, at, b"end\n") {
-        Step::Stuck(at) => refuse(Refusal::NotOfTheForm(at)),
+        Step::Stuck(at) => held::refuse(Refusal::NotOfTheForm(at)),
         Step::Next(past) => {
             if past == text.len() {
                 return finish(p);
             }
-            refuse(Refusal::NotOfTheForm(past))
+            held::refuse(Refusal::NotOfTheForm(past))
         }
     }
 }
@@ -213,7 +176,7 @@ fn lines(text: &[u8], start: Progress, at: usize) -> Reading
         }
         match scan::fence_line(text, here) {
             LineRead::Stuck(at) => {
-                return refuse(Refusal::NotOfTheForm(at));
+                return held::refuse(Refusal::NotOfTheForm(at));
             }
             LineRead::Read(line) => {
                 p = fence_from(text, p, line);
@@ -231,14 +194,14 @@ pub fn read(text: &[u8]) -> Reading
     ensures words { λ r. ⌜ Told (now (text .entry)) r ⌝ }
 {
     if 1024 < text.len() {
-        return refuse(Refusal::OverLimit);
+        return held::refuse(Refusal::OverLimit);
     }
     match scan::head_line(text) {
-        LineRead::Stuck(at) => refuse(Refusal::NotOfTheForm(at)),
+        LineRead::Stuck(at) => held::refuse(Refusal::NotOfTheForm(at)),
         LineRead::Read(line) => {
             let name = name_in(rest(text, line.name));
             let ppo = table_in(rest(text, line.table));
-            let model = bare_model(name, ppo);
+            let model = held::bare_model(name, ppo);
             lines(text, Progress { model, repeat: 0 }, line.next)
         }
     }

@@ -7,8 +7,8 @@ use denote.Ref.{now}
 use mathlib.Core.List.{List, _++_}
 use lib.ListN.{length, getD, take, set, replicate}
 use Rattle.models.proofs.Taken.{name-more, name-done}
-use Rattle.models.proofs.reader.first_bytes.Statement.{statement}
-use Rattle.models.proofs.reader.first_bytes.Tie as tie
+use Rattle.models.proofs.held.first_bytes.Statement.{statement}
+use Rattle.models.proofs.held.first_bytes.Tie as tie
 
 abbrev Inv-loop : tie.InvT-loop
 Inv-loop text n bytes₀ i₀ bytes i = (i ≤ n) × (n ≤ 16) × (n ≤ length text) × (bytes ≡ take i text ++ replicate (16 - i) 0)

@@ -6,8 +6,8 @@ use Prim.Native.Nat.{ℕ, _+_, _-_, _≤_, _<_}
 use native.Mathlib.Omega.{arith}
 use lib.ListN.{length, getD, take, drop}
 use borrow.Author.Needs.{needs}
-use Rattle.models.proofs.reader.refuse.Statement.{statement}
-use Rattle.models.proofs.reader.refuse.Tie as tie
+use Rattle.models.proofs.held.refuse.Statement.{statement}
+use Rattle.models.proofs.held.refuse.Tie as tie
 
 bare-model-requires : tie.Need-bare-model-requires
 bare-model-requires c κs = search needs

@@ -1,0 +1,49 @@
+// How a model is held: the makers of names, of models without fences and of refused readings. Only this crate's readers use them.
+ghost use mathlib.Core.Path.{_≡_};
+ghost use Prim.Native.Nat.{_≤_};
+ghost use lib.ListN.{length, take};
+ghost use Rattle.models.specs.Reading.{filled, bare, refusing};
+use crate::model::Model;
+use crate::model::Name;
+use crate::model::Reading;
+use crate::model::Verdict;
+use answers::Refusal;
+use tables::table::Table;
+
+// The first bytes of a text as a name.
+pub fn first_bytes(text: &[u8], n: usize) -> Name
+    requires { ⌜ (n ≤ 16) × (n ≤ length (now text)) ⌝ }
+    ensures { λ r. ⌜ r ≡ filled (take n (now (text .entry))) ⌝ }
+{
+    let mut bytes = [0u8; 16];
+    let mut i = 0;
+    while i < n {
+        bytes[i] = text[i];
+        i += 1;
+    }
+    Name { bytes }
+}
+
+// A model without fences.
+pub fn bare_model(name: Name, ppo: Table) -> Model
+    ensures { λ r. ⌜ r ≡ bare name ppo ⌝ }
+{
+    let zeros = Name { bytes: [0; 16] };
+    Model {
+        ppo,
+        fences: 0,
+        tables: [0; 16],
+        name,
+        names: [zeros; 16],
+    }
+}
+
+pub fn refuse(why: Refusal) -> Reading
+    ensures { λ r. ⌜ r ≡ refusing why ⌝ }
+{
+    let model = bare_model(Name { bytes: [0; 16] }, Table::NONE);
+    Reading {
+        verdict: Verdict::Refused(why),
+        model,
+    }
+}
