@@ -11,10 +11,6 @@ use Rattle.answers.specs.declared.Refusal.{Refusal}
 use Rattle.answers.specs.declared.Answer.{Answer}
 use Rattle.answers.specs.Written.{written, writing}
 
--- an answer and a buffer that an equation gives are the only ones
-pub one : {A : Type 0} {a b c : A} → a ≡ c → b ≡ c → a ≡ b
-one p q = p ∙ sym q
-
 pub written-fits : (text out : List ℕ) → length text ≤ length out → written text out ≡ text ++ drop (length text) out
 unfolding written
 written-fits text out l = rw (le-leb _ _ l)
