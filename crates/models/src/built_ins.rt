@@ -1,8 +1,6 @@
 // The sixteen built-in models: a table of numbers, and the names that it counts.
 ghost use mathlib.Core.Path.{_≡_};
 ghost use Prim.Native.Nat.{ℕ, _%_, _<_};
-ghost use lib.ListN.{length};
-ghost use Rattle.answers.specs.Written.{written, writing};
 ghost use Rattle.models.specs.Numbers.{nameFrom, modelFrom};
 ghost use Rattle.models.specs.BuiltIns.{builtInReading};
 use crate::held;
@@ -10,7 +8,6 @@ use crate::model::Model;
 use crate::model::Name;
 use crate::model::Reading;
 use crate::model::Verdict;
-use answers::Answer;
 use answers::Refusal;
 use tables::table::Table;
 

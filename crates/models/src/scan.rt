@@ -1,10 +1,7 @@
 // The steps of reading a text. A part of the text is followed from a place of it; the answer is the place after the part, or the place
 // at which the text departs from it.
 ghost use mathlib.Core.Path.{_≡_};
-ghost use mathlib.Core.Bool.{_||_};
-ghost use Prim.Native.Nat.{ℕ, _+_, _≤_, _<_};
-ghost use lib.Dec.{eqb};
-ghost use lib.ListN.{length, getD, drop};
+ghost use lib.ListN.{getD, drop};
 ghost use Rattle.models.specs.Model.{between, nameByte};
 ghost use Rattle.models.specs.Scan.{cellByte, fits, nameRun, followAt, nameAt, tablePattern};
 ghost use Rattle.models.specs.Reading.{lineEnd, ppoAt, headAt, fenceAt};

@@ -1,3 +1,4 @@
+-- `refuse` meets its contract. Assumes nothing.
 use Rattle.models.specs.declared.model.Model.{Model}
 use Rattle.models.specs.declared.model.Verdict.{Verdict}
 -- `refuse` meets its contract. Assumes nothing.

@@ -1,3 +1,4 @@
+-- `fence_from` meets its contract. Assumes nothing.
 use mathlib.Core.Path.{ap, ap₂, _∙_}
 use Rattle.tables.specs.declared.table.Table.{Table}
 use Rattle.models.specs.declared.model.Name.{Name}

@@ -1,3 +1,4 @@
+-- `is_among` meets its contract. Assumes nothing.
 use lib.Seq.{length-take-le, getD-take}
 use mathlib.Core.List.{[]}
 use Rattle.models.specs.declared.model.Name.{Name}

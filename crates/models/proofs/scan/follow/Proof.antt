@@ -1,3 +1,4 @@
+-- `follow` meets its contract. Assumes nothing.
 use borrow.Author.Tests.{not-true, not-false}
 -- `follow` meets its contract: after i bytes of the pattern the whole is what follows from here. Assumes nothing.
 use borrow.Author.Needs.{needs}

@@ -1,3 +1,4 @@
+-- `name` meets its contract. Assumes nothing.
 use denote.Ref.{now}
 -- `name` meets its contract: each `return` by the tests that led there. Assumes nothing.
 use mathlib.Core.Path.{sym}

@@ -1,3 +1,4 @@
+-- `name_bytes` meets its contract. Assumes nothing.
 use denote.Ref.{now}
 use borrow.Author.Tests.{not-true, not-false}
 -- `name_bytes` meets its contract. Assumes nothing.

@@ -1,3 +1,4 @@
+-- `put` meets its contract. Assumes nothing.
 use mathlib.Core.List.{append-nil}
 -- `put` meets its contract: after i turns the first i bytes of the text stand there. Assumes nothing.
 use borrow.Author.Needs.{needs}
