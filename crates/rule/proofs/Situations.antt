@@ -8,8 +8,7 @@ use lib.ListN.{length}
 use Rattle.tables.specs.declared.table.Row.{Row}
 use Rattle.tables.specs.declared.table.Column.{Column}
 use Rattle.tables.specs.declared.table.Table.{Table}
-use Rattle.tables.specs.declared.table.Merge.{Merge}
-use Rattle.tables.specs.Table.{cell, choose, excess, table, higher, lower, exceeding, atLeast}
+use Rattle.tables.specs.Table.{Merge, cell, choose, excess, table, higher, lower, exceeding, atLeast}
 use Rattle.tables.proofs.Laws.{cell-below, cell-made, cell-merged, table-cong, table-merged, at-least-cells, cells-at-least, cell-none}
 use Rattle.tables.proofs.Excess.{excess-below, excess-least, excess-lifts, excess-of-higher, excess-over-higher}
 use Rattle.rule.specs.declared.operation.Kind.{Kind}

@@ -4,14 +4,14 @@ use mathlib.Core.Path.{_≡_, refl, sym, ap, ap₂, _∙_}
 use mathlib.Core.Bool.{Bool, true, false}
 use native.Mathlib.Nat.{mod-lt, mod-eq-of-lt, zero-div}
 use native.Mathlib.Omega.{arith}
-use borrow.Author.Tests.{eq-eqb, eqb-true}
-use lib.Dec.{eqb, lit<}
+use native.Mathlib.Decide.{decLt}
+use borrow.Author.Tests.{eq-eqb, eqb-true, lt-ltb, le-ltb}
+use lib.Dec.{eqb, ltb, lit<}
 use Rattle.tables.specs.declared.table.Row.{Row}
 use Rattle.tables.specs.declared.table.Column.{Column}
 use Rattle.tables.specs.declared.table.Table.{Table}
-use Rattle.tables.specs.declared.table.Merge.{Merge}
 use Rattle.tables.specs.Cells.{digit, packed}
-use Rattle.tables.specs.Table.{rowNumber, columnNumber, cells, place, cell, choose, rowOf, columnOf, table, Clean, excess, merged, mergedTable, atLeast, levelsTable}
+use Rattle.tables.specs.Table.{rowNumber, columnNumber, cells, place, cell, choose, rowOf, columnOf, table, Clean, excess, Merge, merged, mergedTable, pickedTable, atLeast, levelsTable}
 use mathlib.Core.List.{List}
 use lib.ListN.{getD}
 use Rattle.tables.proofs.Excess.{excess-none, excess-below, excess-lifts}
@@ -130,22 +130,51 @@ pub table-merged : (how : Merge) (a b : Table) (f : Row → Column → ℕ)
 unfolding mergedTable
 table-merged how a b f h = table-cong f (λ (r : Row) (c : Column). merged how (cell a r c) (cell b r c)) h
 
--- the same by places: what a loop over the places packs
-pub merged-places : (how : Merge) (a b : Table)
-    → record { packed = packed (λ (i : ℕ). merged how (digit (a .packed) i) (digit (b .packed) i)) cells } ≡ mergedTable how a b
-unfolding mergedTable table
-merged-places how a b =
+-- the number 0 has only `-`
+pub cell-none : (r : Row) (c : Column) → cell (record { packed = 0 }) r c ≡ 0
+cell-none r c = ap (λ (n : ℕ). n % 4) (zero-div (2 ^ (2 * place r c)))
+
+-- what is picked place by place is the picked table
+pub picked-places : (a b x y : Table)
+    → record { packed = packed (λ (i : ℕ). choose (ltb (digit (b .packed) i) (digit (a .packed) i)) (digit (x .packed) i) (digit (y .packed) i)) cells }
+    ≡ pickedTable a b x y
+unfolding pickedTable table
+picked-places a b x y =
     ap (λ (n : ℕ). record { packed = n })
-    (packed-cong (λ (i : ℕ). merged how (digit (a .packed) i) (digit (b .packed) i)) _ cells
-    (λ i l. ap (λ (k : ℕ). merged how (digit (a .packed) k) (digit (b .packed) k)) (sym (place-own i l))))
+    (packed-cong (λ (i : ℕ). choose (ltb (digit (b .packed) i) (digit (a .packed) i)) (digit (x .packed) i) (digit (y .packed) i)) _ cells
+    (λ i l. ap (λ (k : ℕ). choose (ltb (digit (b .packed) k) (digit (a .packed) k)) (digit (x .packed) k) (digit (y .packed) k)) (sym (place-own i l))))
+
+-- the three tables made of two are picked so
+module _ (a b : Table) where
+  pub picked-higher : pickedTable a b a b ≡ mergedTable Merge.Higher a b
+  unfolding pickedTable
+  picked-higher = table-merged Merge.Higher a b _ (λ r c. at (cell a r c) (cell b r c))
+    where
+      at : (x y : ℕ) → choose (ltb y x) x y ≡ max x y
+      at x y = by (decLt y x)
+        where
+          by : Dec (y < x) → choose (ltb y x) x y ≡ max x y
+          by (yes l) = ap (λ (t : Bool). choose t x y) (lt-ltb y x l) ∙ omega arith
+          by (no l) = ap (λ (t : Bool). choose t x y) (le-ltb y x (omega arith)) ∙ omega arith
+
+  pub picked-lower : pickedTable a b b a ≡ mergedTable Merge.Lower a b
+  unfolding pickedTable
+  picked-lower = table-merged Merge.Lower a b _ (λ r c. at (cell a r c) (cell b r c))
+    where
+      at : (x y : ℕ) → choose (ltb y x) y x ≡ min x y
+      at x y = by (decLt y x)
+        where
+          by : Dec (y < x) → choose (ltb y x) y x ≡ min x y
+          by (yes l) = ap (λ (t : Bool). choose t y x) (lt-ltb y x l) ∙ omega arith
+          by (no l) = ap (λ (t : Bool). choose t y x) (le-ltb y x (omega arith)) ∙ omega arith
+
+  pub picked-exceeding : pickedTable a b a (record { packed = 0 }) ≡ mergedTable Merge.Exceeding a b
+  unfolding pickedTable
+  picked-exceeding = table-merged Merge.Exceeding a b _ (λ r c. ap (choose (ltb (cell b r c) (cell a r c)) (cell a r c)) (cell-none r c))
 
 pub merged-clean : (how : Merge) (a b : Table) → Clean (mergedTable how a b)
 unfolding mergedTable
 merged-clean how a b = table-clean _
-
--- the number 0 has only `-`
-pub cell-none : (r : Row) (c : Column) → cell (record { packed = 0 }) r c ≡ 0
-cell-none r c = ap (λ (n : ℕ). n % 4) (zero-div (2 ^ (2 * place r c)))
 
 -- a table whose cells are all `-` is the number 0
 table-none : table (λ (r : Row) (c : Column). 0) ≡ record { packed = 0 }

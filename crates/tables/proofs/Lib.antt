@@ -1,4 +1,5 @@
 pub mod Excess
 pub mod Laws
 pub mod Packed
+pub mod Planes
 pub mod Unique

@@ -11,7 +11,6 @@ use lib.Dec.{ltb, eqb}
 use Rattle.tables.specs.declared.table.Row.{Row}
 use Rattle.tables.specs.declared.table.Column.{Column}
 use Rattle.tables.specs.declared.table.Table.{Table}
-use Rattle.tables.specs.declared.table.Merge.{Merge}
 use Rattle.tables.specs.Cells.{digit, packed}
 
 abbrev pub rowNumber : Row → ℕ
@@ -60,7 +59,10 @@ Clean t = t .packed < 2 ^ (2 * cells)
 abbrev pub excess : ℕ → ℕ → ℕ
 excess a b = choose (ltb b a) a 0
 
--- what one cell of a table made from two is
+-- what a cell becomes where two tables are made one
+pub data Merge : Type 0 where
+  Higher Lower Exceeding : Merge
+
 abbrev pub merged : Merge → ℕ → ℕ → ℕ
 merged Merge.Higher a b = max a b
 merged Merge.Lower a b = min a b
@@ -68,6 +70,10 @@ merged Merge.Exceeding a b = excess a b
 
 unfoldable pub mergedTable : Merge → Table → Table → Table
 mergedTable how a b = table (λ (r : Row) (c : Column). merged how (cell a r c) (cell b r c))
+
+-- the cells of x where a exceeds b, and of y elsewhere
+unfoldable pub pickedTable : Table → Table → Table → Table → Table
+pickedTable a b x y = table (λ (r : Row) (c : Column). choose (ltb (cell b r c) (cell a r c)) (cell x r c) (cell y r c))
 
 -- the higher of each cell; the lower of each cell; each cell of the first where it exceeds that of the second
 abbrev pub higher : Table → Table → Table

@@ -1,9 +1,10 @@
 // Tables of sixteen cells, packed in one number of row bytes: the first row lowest, in a row the first column lowest. A fifth row has
 // room above the fourth.
 ghost use mathlib.Core.Path.{_≡_};
-ghost use Prim.Native.Nat.{ℕ, _+_, _*_, _^_, _<_};
-ghost use Rattle.tables.specs.Cells.{digit, packed};
-ghost use Rattle.tables.specs.Table.{rowNumber, columnNumber, place, cells, cell, higher, lower, exceeding, atLeast, rowTable, columnTable, levelsTable, merged, mergedTable};
+ghost use Prim.Native.Nat.{ℕ, _+_, _*_, _/_, _^_, _<_};
+ghost use lib.Bits.{bitAnd, bitOr, bitXor};
+ghost use Rattle.tables.specs.Cells.{digit, packed, ones, over};
+ghost use Rattle.tables.specs.Table.{rowNumber, columnNumber, place, cells, cell, higher, lower, exceeding, atLeast, rowTable, columnTable, levelsTable, pickedTable};
 use crate::strength::Strength;
 
 // The earlier access of a pair, by its kind.
@@ -26,12 +27,8 @@ pub struct Table {
     pub packed: u64,
 }
 
-// What a cell becomes where two tables are made one.
-pub enum Merge {
-    Higher,
-    Lower,
-    Exceeding,
-}
+// A bit in each of the sixteen cells.
+const ONES: u64 = 0x5555_5555;
 
 impl Table {
     pub const NONE: Table = Table { packed: 0 };
@@ -51,20 +48,20 @@ impl Table {
     pub fn higher(self, other: Table) -> Table
         ensures { λ r. ⌜ r ≡ higher self other ⌝ }
     {
-        merge_tables(Merge::Higher, self, other)
+        pick_where(self, other, self, other)
     }
 
     pub fn lower(self, other: Table) -> Table
         ensures { λ r. ⌜ r ≡ lower self other ⌝ }
     {
-        merge_tables(Merge::Lower, self, other)
+        pick_where(self, other, other, self)
     }
 
     // This table where it exceeds the other, `-` elsewhere.
     pub fn exceeding(self, other: Table) -> Table
         ensures { λ r. ⌜ r ≡ exceeding self other ⌝ }
     {
-        merge_tables(Merge::Exceeding, self, other)
+        pick_where(self, other, self, Table::NONE)
     }
 
     pub fn at_least(self, other: Table) -> bool
@@ -171,29 +168,45 @@ fn with_digit(t: u64, i: u64, x: u64) -> u64
     t + (x << (2 * i))
 }
 
-fn merge_digits(how: Merge, x: u64, y: u64) -> u64
-    requires { ⌜ (x < 4) × (y < 4) ⌝ }
-    ensures { λ r. ⌜ (r ≡ merged how x y) × (r < 4) ⌝ }
+// The higher bit of each cell, and the lower.
+fn high_bits(t: u64) -> u64
+    ensures { λ r. ⌜ r ≡ bitAnd (t / 2) ones ⌝ }
 {
-    match how {
-        Merge::Higher => if x < y { y } else { x },
-        Merge::Lower => if x < y { x } else { y },
-        Merge::Exceeding => if y < x { x } else { 0 },
-    }
+    (t / 2) & ONES
 }
 
-fn merge_tables(how: Merge, a: Table, b: Table) -> Table
-    ensures { λ r. ⌜ r ≡ mergedTable how a b ⌝ }
+fn low_bits(t: u64) -> u64
+    ensures { λ r. ⌜ r ≡ bitAnd t ones ⌝ }
 {
-    let mut t = 0;
-    let mut i = 0;
-    while i < 16 {
-        t = with_digit(
-            t,
-            i,
-            merge_digits(how, digit_at(a.packed, i), digit_at(b.packed, i)),
-        );
-        i += 1;
+    t & ONES
+}
+
+// A bit where the first cell exceeds the second: its higher bit is above the other's, or not below it and its lower bit is above.
+fn exceeds(a: u64, b: u64) -> u64
+    ensures { λ r. ⌜ r ≡ packed (λ (i : ℕ). over (digit a i) (digit b i)) cells ⌝ }
+{
+    let high = high_bits(a);
+    let no_high = high_bits(b) ^ ONES;
+    let low = low_bits(a);
+    let no_low = low_bits(b) ^ ONES;
+    (high & no_high) | ((high | no_high) & low & no_low)
+}
+
+// The bits of x where there is one in `at`, of y elsewhere.
+fn pick_bits(at: u64, x: u64, y: u64) -> u64
+    ensures { λ r. ⌜ r ≡ bitOr (bitAnd x at) (bitAnd y (bitXor at ones)) ⌝ }
+{
+    (x & at) | (y & (at ^ ONES))
+}
+
+// The cells of x where a exceeds b, of y elsewhere.
+fn pick_where(a: Table, b: Table, x: Table, y: Table) -> Table
+    ensures { λ r. ⌜ r ≡ pickedTable a b x y ⌝ }
+{
+    let at = exceeds(a.packed, b.packed);
+    let high = pick_bits(at, high_bits(x.packed), high_bits(y.packed));
+    let low = pick_bits(at, low_bits(x.packed), low_bits(y.packed));
+    Table {
+        packed: 2 * high + low,
     }
-    Table { packed: t }
 }

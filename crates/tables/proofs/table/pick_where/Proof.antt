@@ -1,0 +1,87 @@
+-- `pick_where` meets its contract: the two planes are picked and joined. Assumes nothing.
+use Prim.Native.Nat.{ℕ, _+_, _*_, _/_, _%_}
+use mathlib.Core.Path.{_≡_, ap, ap₂, _∙_}
+use native.Mathlib.Omega.{arith}
+use Rattle.tables.specs.Cells.{digit, packed, over}
+use Rattle.tables.proofs.Planes.{pick, high-from, low-from, picked-joined, plane-fits}
+use Rattle.tables.proofs.Laws.{picked-places}
+use borrow.Author.Needs.{needs}
+use Rattle.tables.proofs.table.pick_where.Statement.{statement}
+use Rattle.tables.proofs.table.pick_where.Tie as tie
+
+exceeds-requires : tie.Need-exceeds-requires
+exceeds-requires c κs = search needs
+
+high-bits-requires : tie.Need-high-bits-requires
+high-bits-requires c κs = search needs
+
+high-bits-requires-2 : tie.Need-high-bits-requires-2
+high-bits-requires-2 c κs = search needs
+
+pick-bits-requires : tie.Need-pick-bits-requires
+pick-bits-requires c κs = search needs
+
+low-bits-requires : tie.Need-low-bits-requires
+low-bits-requires c κs = search needs
+
+low-bits-requires-2 : tie.Need-low-bits-requires-2
+low-bits-requires-2 c κs = search needs
+
+pick-bits-requires-2 : tie.Need-pick-bits-requires-2
+pick-bits-requires-2 c κs = search needs
+
+abbrev Here : Type 0
+Here = tie.After-pick-bits2
+
+-- the two planes, and that the code has them
+abbrev highs : Here → ℕ → ℕ
+highs c i =
+    let a = c .before .before .before .before .before .before .before .args in
+    pick (over (digit (a .a .packed) i) (digit (a .b .packed) i)) (digit (a .x .packed) i / 2) (digit (a .y .packed) i / 2)
+
+abbrev lows : Here → ℕ → ℕ
+lows c i =
+    let a = c .before .before .before .before .before .before .before .args in
+    pick (over (digit (a .a .packed) i) (digit (a .b .packed) i)) (digit (a .x .packed) i % 2) (digit (a .y .packed) i % 2)
+
+high : (c : Here) → c .before .before .before .pick-bits .result ≡ packed (highs c) 16
+high c =
+    let a = c .before .before .before .before .before .before .before .args in
+    c .before .before .before .pick-bits .ensures
+    ∙ high-from (a .a .packed) (a .b .packed) (a .x .packed) (a .y .packed) _ (c .before .before .before .before .before .before .exceeds .ensures) _ _ (c .before .before .before .before .before .high-bits .ensures)
+    (c .before .before .before .before .high-bits2 .ensures)
+
+low : (c : Here) → c .pick-bits2 .result ≡ packed (lows c) 16
+low c =
+    let a = c .before .before .before .before .before .before .before .args in
+    c .pick-bits2 .ensures
+    ∙ low-from (a .a .packed) (a .b .packed) (a .x .packed) (a .y .packed) _ (c .before .before .before .before .before .before .exceeds .ensures) _ _ (c .before .before .low-bits .ensures)
+    (c .before .low-bits2 .ensures)
+
+mul-t8 : tie.Need-mul-t8
+mul-t8 c = omega (arith, plane-fits _ (highs c) (high c))
+
+add-t9 : tie.Need-add-t9
+add-t9 c = omega (arith, plane-fits _ (highs c) (high c), plane-fits _ (lows c) (low c))
+
+returns : tie.Need-returns
+returns c =
+    let a = c .before .before .before .before .before .before .before .args in
+    ap (λ (n : ℕ). record { packed = n })
+    (ap₂ (λ (h l : ℕ). 2 * h + l) (high c) (low c) ∙ picked-joined (a .a .packed) (a .b .packed) (a .x .packed) (a .y .packed))
+    ∙ picked-places (a .a) (a .b) (a .x) (a .y)
+
+pub pick-where-spec : {M : Type 1} → statement M
+pick-where-spec =
+    tie.close
+    (tie.spec
+    exceeds-requires
+    high-bits-requires
+    high-bits-requires-2
+    pick-bits-requires
+    low-bits-requires
+    low-bits-requires-2
+    pick-bits-requires-2
+    mul-t8
+    add-t9
+    returns)
