@@ -1,0 +1,5 @@
+pub mod Order
+pub mod Runs
+pub mod Pigeonhole
+pub mod Unique
+pub mod Describing

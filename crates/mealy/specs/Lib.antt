@@ -1,0 +1,4 @@
+pub mod Runs
+pub mod Order
+pub mod Arrivals
+pub mod Classes
