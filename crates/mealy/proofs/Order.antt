@@ -91,7 +91,7 @@ below-back v w a b (earlier e h) =
 pub nil-below : (v : List ℕ) (a : ℕ) → [] ≺ v ▹ a
 nil-below v a = shorter (omega (arith, length-on v a))
 
-below-nil : (v : List ℕ) → v ≺ [] → ⊥
+pub below-nil : (v : List ℕ) → v ≺ [] → ⊥
 below-nil v (shorter h) = omega arith
 below-nil [] (earlier e h) = h
 below-nil (a ∷ v) (earlier e h) = h

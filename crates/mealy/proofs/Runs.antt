@@ -31,6 +31,17 @@ after-rest o p (refusal k) (output l) e = cc
 after-rest o p (output k) (refusal l) e = cc
 after-rest o p (output k) (output l) e = cc
 
+afterAll-rest : {O : Type 0} (os : List O) (x y : Told O) → afterAll os x ≡ afterAll os y → x ≡ y
+afterAll-rest [] x y e = e
+afterAll-rest (o ∷ os) x y e = afterAll-rest os x y (after-rest o o (afterAll os x) (afterAll os y) e)
+
+pub followed-rest : {O : Type 0} (z : Told O) {x y : Told O} → T (heard z) → followed z x ≡ followed z y → x ≡ y
+followed-rest (refusal k) h e = absurd h
+followed-rest (output os) {x} {y} h e = afterAll-rest os x y e
+
+pub untaken : {O S : Type 0} {o : O} {t : S} → _≡_ {A = Answer O S} refused (taken o t) → ⊥
+untaken e = let z : _≡_ {A = ℕ} 0 1 = cc in omega arith
+
 never : {O : Type 0} {os : List O} {k : ℕ} → output os ≡ refusal k → ⊥
 never {k = k} e = let z : _≡_ {A = ℕ} 0 1 = cc in omega arith
 
