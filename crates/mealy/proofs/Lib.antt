@@ -3,3 +3,6 @@ pub mod Runs
 pub mod Pigeonhole
 pub mod Unique
 pub mod Describing
+pub mod Exploring
+pub mod Refining
+pub mod States

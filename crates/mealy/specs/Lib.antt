@@ -2,3 +2,4 @@ pub mod Runs
 pub mod Order
 pub mod Arrivals
 pub mod Classes
+pub mod Exploring
