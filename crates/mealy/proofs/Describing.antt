@@ -1,21 +1,19 @@
 -- A described machine runs like the machine that it describes, and none that answers alike has fewer states. Assumes nothing.
-use Prim.Native.Nat.{ℕ, zero, suc, _+_, _≤_, _<_, zero-le}
-use mathlib.Core.Path.{_≡_, refl, sym, _∙_, ap, subst}
-use mathlib.Core.Logic.{_⊎_, inl, inr, ⊎-elim}
+use Prim.Native.Nat.{ℕ, _≤_, _<_}
+use mathlib.Core.Path.{_≡_, refl, sym, _∙_, ap}
+use mathlib.Core.Logic.{⊎-elim}
 use mathlib.Core.List.{List, [], _∷_, _++_}
-use mathlib.Core.Bool.{true, false}
 use native.Mathlib.Omega.{arith}
 use native.Mathlib.Decide.{decLt}
-use borrow.Author.Tests.{lt-ltb, le-ltb}
+use borrow.Author.Tests.{lt-ltb}
 use lib.ListN.{length, getD}
-use Rattle.mealy.specs.Runs.{Answer, refused, taken, Machine, Told, refusal, output, after, tell, told, go, ends, Accepted, AcceptedFrom, reached, Same}
-use Rattle.mealy.specs.Order.{_≺_, _≼_}
-use Rattle.mealy.specs.Arrivals.{arrival, Apart, AllAccepted, Known, Arrivals, More, AtMost, Entry, Described, within, numbered}
+use Rattle.mealy.specs.Runs.{Answer, refused, taken, Machine, Told, after, told, go, ends, Accepted, AcceptedFrom, reached, Same}
+use Rattle.mealy.specs.Arrivals.{arrival, Apart, AllAccepted, Entry, Described, numbered}
 use Rattle.mealy.specs.Classes.{Closed}
 use Rattle.mealy.proofs.Order.{below-nil, at-most-nil}
 use Rattle.mealy.proofs.Runs.{untaken, followed, followed-rest, told-append, same-eq, same-trans, same-refused, same-taken, first-taken}
 use Rattle.mealy.proofs.Pigeonhole.{pigeonhole}
-use Rattle.mealy.proofs.Unique.{Alike, order}
+use Rattle.mealy.proofs.Unique.{order}
 
 pub numbered-step : {O : Type 0} (n : ℕ) (row : ℕ → ℕ → Answer O ℕ) (i a : ℕ) → a < n → (numbered n row) .step i a ≡ row i a
 numbered-step n row i a h = rw (lt-ltb a n h)
@@ -32,9 +30,9 @@ module _ {S O : Type 0} (m : Machine S O) (R : S → S → Type 0) {k : ℕ} {ro
 
   pub stepped : (i a : ℕ) → i < k → Stepped m R (d .streams) k (machine .step i a) (m .step (arrival m (d .streams) i) a)
   stepped i a p =
-      elim (decLt a (m .letters))
-      [ yes q ↦ look (row i a) (numbered-step (m .letters) row i a q) (d .rows i a p q)
-      | no q ↦ neither (machine .outside i a (omega arith)) (m .outside _ a (omega arith))
+      elim (decLt a (m .letters)) [
+        | yes q ↦ look (row i a) (numbered-step (m .letters) row i a q) (d .rows i a p q)
+        | no q ↦ neither (machine .outside i a (omega arith)) (m .outside _ a (omega arith))
       ]
     where
       look : (x : Answer O ℕ) → machine .step i a ≡ x → Entry m R (d .streams) i a x
@@ -126,9 +124,9 @@ fewest m n k p c alike ws good apart =
     pigeonhole (length ws) k (λ i q. arrival n ws i) (λ i q. ends-within n k c (n .fresh) p (getD ws i []))
     (λ i j q r l e.
     apart i j l r
-    (record
-    { same = λ w.
-        sym (alike-on m n alike (getD ws i []) w (good i q))
-        ∙ ap (λ (t : ℕ). told n t w) e
-        ∙ alike-on m n alike (getD ws j []) w (good j r)
+    (record {
+      same = λ w.
+          sym (alike-on m n alike (getD ws i []) w (good i q))
+          ∙ ap (λ (t : ℕ). told n t w) e
+          ∙ alike-on m n alike (getD ws j []) w (good j r);
     }))

@@ -1,15 +1,15 @@
 -- Exploring breadth first: how it starts, goes on and ends. Assumes nothing.
-use Prim.Native.Nat.{ℕ, zero, suc, _+_, _≤_, _<_}
-use mathlib.Core.Path.{_≡_, refl, sym, _∙_, ap, subst}
+use Prim.Native.Nat.{ℕ, zero, suc, _+_, _<_}
+use mathlib.Core.Path.{_≡_, refl, sym, _∙_, ap}
 use mathlib.Core.Logic.{_⊎_, inl, inr, ⊎-elim}
 use mathlib.Core.List.{List, [], _∷_, _++_, append-nil}
 use native.Mathlib.Omega.{arith}
 use lib.ListN.{length, getD, length-append, List·getD-append}
 use native.Mathlib.Decide.{decLt}
 use lib.Seq.{getD-append-seam, append-snoc}
-use Rattle.mealy.specs.Runs.{Answer, refused, taken, Machine, told, go, ends, Accepted, AcceptedFrom, reached}
+use Rattle.mealy.specs.Runs.{Answer, refused, taken, Machine, go, ends, Accepted, AcceptedFrom, reached}
 use Rattle.mealy.specs.Order.{_≺_, _≼_, _▹_}
-use Rattle.mealy.specs.Arrivals.{arrival, Apart, AllAccepted, Known, Arrivals, More, AtMost, Entry, Described}
+use Rattle.mealy.specs.Arrivals.{arrival, More, Entry, Described}
 use Rattle.mealy.specs.Exploring.{Met, Before, Exploring}
 use Rattle.mealy.proofs.Order.{below-on, below-last, nil-below, at-most-on, at-most-trans}
 use Rattle.mealy.proofs.Runs.{untaken, accepted-on, ends-on, first-taken}
@@ -43,15 +43,15 @@ new ws v = getD-append-seam ws v [] []
 module _ {S O : Type 0} (m : Machine S O) where
   pub explore-start : (row : ℕ → ℕ → Answer O ℕ) → Exploring m ([] ∷ []) row 0 0
   explore-start row =
-      record
-      { starts = refl
-      ; some = omega arith
-      ; here = omega arith
-      ; rising = λ p q l h. absurd (omega arith)
-      ; accepted = λ i h. only i
-      ; apart = λ p q l h e. absurd (omega arith)
-      ; found = λ p l h. absurd (omega arith)
-      ; met = λ j b l h. absurd (none l)
+      record {
+        starts = refl;
+        some = omega arith;
+        here = omega arith;
+        rising = λ p q l h. absurd (omega arith);
+        accepted = λ i h. only i;
+        apart = λ p q l h e. absurd (omega arith);
+        found = λ p l h. absurd (omega arith);
+        met = λ j b l h. absurd (none l);
       }
     where
       only : (i : ℕ) → Accepted m (getD ([] ∷ []) i [])
@@ -80,15 +80,15 @@ module _ {S O : Type 0} (m : Machine S O) where
   pub explore-row : {ws : List (List ℕ)} {row : ℕ → ℕ → Answer O ℕ} {i : ℕ} → Exploring m ws row i (m .letters) → i < length ws
       → Exploring m ws row (i + 1) 0
   explore-row {ws} {row} {i} x h =
-      record
-      { starts = x .starts
-      ; some = x .some
-      ; here = omega arith
-      ; rising = x .rising
-      ; accepted = x .accepted
-      ; apart = x .apart
-      ; found = λ p l q. let from = x .found p l q in (from .0, from .1, inl (under (from .2)), from .3)
-      ; met = λ j b l q. x .met j b (back l q) q
+      record {
+        starts = x .starts;
+        some = x .some;
+        here = omega arith;
+        rising = x .rising;
+        accepted = x .accepted;
+        apart = x .apart;
+        found = λ p l q. let from = x .found p l q in (from .0, from .1, inl (under (from .2)), from .3);
+        met = λ j b l q. x .met j b (back l q) q;
       }
     where
       under : {j b : ℕ} → Before j b i (m .letters) → j < i + 1
@@ -104,18 +104,18 @@ module _ {S O : Type 0} (m : Machine S O) where
       → (next : ℕ → ℕ → Answer O ℕ) → ((j b : ℕ) → Before j b i a → next j b ≡ row j b) → Met m ws i a (next i a)
       → Exploring m ws next i (a + 1)
   explore-known {ws} {row} {i} {a} x next kept here =
-      record
-      { starts = x .starts
-      ; some = x .some
-      ; here = x .here
-      ; rising = x .rising
-      ; accepted = x .accepted
-      ; apart = x .apart
-      ; found = λ p l q. let from = x .found p l q in (from .0, from .1, before-on (from .2), from .3)
-      ; met = λ j b l q.
-          ⊎-elim (λ (k : Before j b i a). rw (kept j b k) (x .met j b k q))
-          (λ (k : (j ≡ i) × (b ≡ a)). rw (k .0, k .1) here)
-          (before-next l)
+      record {
+        starts = x .starts;
+        some = x .some;
+        here = x .here;
+        rising = x .rising;
+        accepted = x .accepted;
+        apart = x .apart;
+        found = λ p l q. let from = x .found p l q in (from .0, from .1, before-on (from .2), from .3);
+        met = λ j b l q.
+            ⊎-elim (λ (k : Before j b i a). rw (kept j b k) (x .met j b k q))
+            (λ (k : (j ≡ i) × (b ≡ a)). rw (k .0, k .1) here)
+            (before-next l);
       }
 
   met-more : (ws : List (List ℕ)) (v : List ℕ) (j b : ℕ) (y : Answer O ℕ) → j < length ws → Met m ws j b y → Met m (_▹▹_ ws v) j b y
@@ -134,15 +134,15 @@ module _ {S O : Type 0} (m : Machine S O) where
       → next i a ≡ taken o (length ws)
       → Exploring m (ws ++ ((getD ws i [] ▹ a) ∷ [])) next i (a + 1)
   explore-new {ws} {row} {i} {a} x h next kept o t e unseen there =
-      record
-      { starts = old ws v (x .some) ∙ x .starts
-      ; some = omega (arith, length-more ws v)
-      ; here = omega (arith, length-more ws v)
-      ; rising = λ p q l r. up p q l (split q r)
-      ; accepted = λ p r. good p (split p r)
-      ; apart = λ p q l r. off p q l (split q r)
-      ; found = λ p l r. from p l (split p r)
-      ; met = λ j b l r. ⊎-elim (λ k. past j b k r) (λ k. now j b k) (before-next l)
+      record {
+        starts = old ws v (x .some) ∙ x .starts;
+        some = omega (arith, length-more ws v);
+        here = omega (arith, length-more ws v);
+        rising = λ p q l r. up p q l (split q r);
+        accepted = λ p r. good p (split p r);
+        apart = λ p q l r. off p q l (split q r);
+        found = λ p l r. from p l (split p r);
+        met = λ j b l r. ⊎-elim (λ k. past j b k r) (λ k. now j b k) (before-next l);
       }
     where
       v : List ℕ
@@ -180,10 +180,11 @@ module _ {S O : Type 0} (m : Machine S O) where
 
       now : (j b : ℕ) → (j ≡ i) × (b ≡ a) → Met m (_▹▹_ ws v) j b (next j b)
       now j b k =
-          rw (k .0, k .1, there)
-          (ap (λ (u : List ℕ). m .step (reached m u) a) (old ws v h) ∙ e ∙ ap (taken o) (sym leads),
-          omega (arith, length-more ws v),
-          inl (new ws v ∙ ap (λ (u : List ℕ). u ▹ a) (sym (old ws v h))))
+          rw (k .0, k .1, there) (
+            ap (λ (u : List ℕ). m .step (reached m u) a) (old ws v h) ∙ e ∙ ap (taken o) (sym leads),
+            omega (arith, length-more ws v),
+            inl (new ws v ∙ ap (λ (u : List ℕ). u ▹ a) (sym (old ws v h))),
+          )
 
   met-entry : (ws : List (List ℕ)) (i a : ℕ) (y : Answer O ℕ) → Met m ws i a y → Entry m _≡_ ws i a y
   met-entry ws i a refused h = h
@@ -216,19 +217,19 @@ module _ {S O : Type 0} (m : Machine S O) where
   -- every number's letters are answered: the streams are the situations' first arrivals, and the rows are theirs
   pub explore-end : {ws : List (List ℕ)} {row : ℕ → ℕ → Answer O ℕ} → Exploring m ws row (length ws) 0 → Described m _≡_ (length ws) row
   explore-end {ws} {row} x =
-      record
-      { streams = ws
-      ; first =
-          record
-          { rising = x .rising
-          ; accepted = x .accepted
-          ; apart = x .apart
-          ; covers = λ w g.
-              let to = reaches x w [] 0 (m .fresh) (x .some) (ap (reached m) (x .starts)) (inl (x .starts)) g in
-              (to .0, to .1, to .2, to .3)
-          }
-      ; count = refl
-      ; rows = λ i a h q. met-entry ws i a (row i a) (x .met i a (inl h) q)
+      record {
+        streams = ws;
+        first =
+            record {
+              rising = x .rising;
+              accepted = x .accepted;
+              apart = x .apart;
+              covers = λ w g.
+                  let to = reaches x w [] 0 (m .fresh) (x .some) (ap (reached m) (x .starts)) (inl (x .starts)) g in
+                  (to .0, to .1, to .2, to .3);
+            };
+        count = refl;
+        rows = λ i a h q. met-entry ws i a (row i a) (x .met i a (inl h) q);
       }
 
   -- streams that have been found are so many situations

@@ -2,12 +2,12 @@
 -- leaves their number as it was, it leaves the classes as they were, and one class is one state. Assumes nothing.
 use Prim.Native.Nat.{ℕ, zero, suc, _+_, _-_, _≤_, _<_, zero-le}
 use mathlib.Core.Path.{_≡_, refl, sym, _∙_, ap}
-use mathlib.Core.Logic.{_⊎_, inl, inr, ⊎-elim, _↔_}
+use mathlib.Core.Logic.{_⊎_, inl, inr, ⊎-elim}
 use mathlib.Core.List.{List, [], _∷_}
 use native.Mathlib.Omega.{arith}
-use native.Mathlib.Nat.{add-zero, zero-add, add-suc}
+use native.Mathlib.Nat.{add-zero, zero-add}
 use native.Mathlib.Decide.{decLt}
-use Rattle.mealy.specs.Runs.{Answer, refused, taken, Machine, Told, after, tell, told, Same}
+use Rattle.mealy.specs.Runs.{Answer, refused, taken, Machine, told}
 use Rattle.mealy.specs.Classes.{Numbering, classed, Closed, Coarse, Stable, Split, Round, States}
 use Rattle.mealy.proofs.Runs.{untaken, same-refused, same-taken}
 use Rattle.mealy.proofs.Unique.{order}
@@ -96,11 +96,11 @@ module _ {O : Type 0} {m : Machine ℕ O} {k : ℕ} (closed : Closed m k) where
   pub round-next : {began : ℕ} {class finer : ℕ → ℕ} {n o a : ℕ} → Round m k began class n a → Split m k class a finer → Numbering k finer o
       → Round m k began finer o (a + 1)
   round-next {began} {class} {finer} {n} {o} {a} x split y =
-      record
-      { numbering = y
-      ; coarse = split-coarse k a (omega arith) (x .coarse) split
-      ; grown = omega (arith, x .grown, more)
-      ; stable = λ e b l. ⊎-elim (λ (r : b < a). stable-alike b (alike e) (x .stable (omega (arith, x .grown, more)) b r)) (λ r. here e b r) (split-last b l)
+      record {
+        numbering = y;
+        coarse = split-coarse k a (omega arith) (x .coarse) split;
+        grown = omega (arith, x .grown, more);
+        stable = λ e b l. ⊎-elim (λ (r : b < a). stable-alike b (alike e) (x .stable (omega (arith, x .grown, more)) b r)) (λ r. here e b r) (split-last b l);
       }
     where
       fine : (i j : ℕ) → i < k → j < k → finer i ≡ finer j → class i ≡ class j
@@ -125,9 +125,9 @@ module _ {O : Type 0} {m : Machine ℕ O} {k : ℕ} (closed : Closed m k) where
       → told m i w ≡ told m j w
   stable-same stable [] i j h l e = refl
   stable-same {class} stable (a ∷ w) i j h l e =
-      elim (decLt a (m .letters))
-      [ yes q ↦ look (λ u v. stable-same stable w u v) (m .step i a) refl (m .step j a) refl (stable a q i j h l e)
-      | no q ↦ rw (m .outside i a (omega arith), m .outside j a (omega arith))
+      elim (decLt a (m .letters)) [
+        | yes q ↦ look (λ u v. stable-same stable w u v) (m .step i a) refl (m .step j a) refl (stable a q i j h l e)
+        | no q ↦ rw (m .outside i a (omega arith), m .outside j a (omega arith))
       ]
     where
       look : ((u v : ℕ) → u < k → v < k → class u ≡ class v → told m u w ≡ told m v w)
@@ -145,7 +145,7 @@ module _ {O : Type 0} {m : Machine ℕ O} {k : ℕ} (closed : Closed m k) where
   -- a round that leaves the count as it was
   pub round-end : {class : ℕ → ℕ} {n : ℕ} → Round m k n class n (m .letters) → States m k class n
   round-end x =
-      record
-      { numbering = x .numbering
-      ; states = λ i j h l. (λ e. record { same = λ w. stable-same (x .stable refl) w i j h l e }, x .coarse i j h l)
+      record {
+        numbering = x .numbering;
+        states = λ i j h l. (λ e. record { same = λ w. stable-same (x .stable refl) w i j h l e }, x .coarse i j h l);
       }

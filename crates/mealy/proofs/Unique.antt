@@ -1,15 +1,15 @@
 -- The first arrivals are determined, and so are their rows; more than n and at most n exclude each other. Assumes nothing.
-use Prim.Native.Nat.{ℕ, zero, suc, _+_, _≤_, _<_, zero-le}
-use mathlib.Core.Path.{_≡_, refl, sym, _∙_, ap, subst}
+use Prim.Native.Nat.{ℕ, zero, suc, _≤_, _<_, zero-le}
+use mathlib.Core.Path.{_≡_, refl, sym, _∙_, ap}
 use mathlib.Core.Logic.{_⊎_, inl, inr, ⊎-elim}
-use mathlib.Core.List.{List, [], _∷_}
+use mathlib.Core.List.{List, []}
 use native.Mathlib.Omega.{arith}
 use native.Mathlib.Decide.{decLt}
 use lib.ListN.{length, getD}
 use lib.Seq.{ext-getD}
-use Rattle.mealy.specs.Runs.{Answer, refused, taken, Machine, Accepted, reached}
-use Rattle.mealy.specs.Order.{_≺_, _≼_}
-use Rattle.mealy.specs.Arrivals.{arrival, Apart, AllAccepted, Known, Arrivals, More, AtMost, Entry, Described}
+use Rattle.mealy.specs.Runs.{Answer, refused, taken, Machine}
+use Rattle.mealy.specs.Order.{_≺_}
+use Rattle.mealy.specs.Arrivals.{arrival, Apart, Known, Arrivals, More, AtMost, Entry, Described}
 use Rattle.mealy.proofs.Order.{below-irrefl, below-trans, at-most-antisym}
 use Rattle.mealy.proofs.Pigeonhole.{pigeonhole}
 
@@ -31,10 +31,10 @@ module _ {S O : Type 0} (m : Machine S O) (R : S → S → Type 0) (eq : Alike R
   pub not-more : (n : ℕ) → AtMost m R n → More m R n → ⊥
   not-more n few more =
       let to : (i : ℕ) → i < length (more .streams) → Known m R (few .streams) (arrival m (more .streams) i)
-          = λ i p. few .covers (getD (more .streams) i []) (more .accepted i p) in
+      = λ i p. few .covers (getD (more .streams) i []) (more .accepted i p) in
       let fits : length (more .streams) ≤ length (few .streams)
-          = pigeonhole _ _ (λ i p. to i p .0) (λ i p. to i p .1)
-            (λ i j p q l e. more .apart i j l q (eq .on _ _ _ (eq .back _ _ (to i p .2)) (rw (← e) at (to j q .2)))) in
+      = pigeonhole _ _ (λ i p. to i p .0) (λ i p. to i p .1)
+      (λ i j p q l e. more .apart i j l q (eq .on _ _ _ (eq .back _ _ (to i p .2)) (rw (← e) at (to j q .2)))) in
       omega (arith, fits, few .few, more .many)
 
   -- the numbers of arrivals go by the order of their streams
@@ -58,7 +58,7 @@ module _ {S O : Type 0} (m : Machine S O) (R : S → S → Type 0) (eq : Alike R
         let before = member i (omega arith) in
         let le : i ≤ before .0 = behind i (before .0) (omega arith) (before .1) (before .2) in
         let lt : before .0 < j
-            = rising-back b (before .0) j (before .1) q (rw (e, before .2) at (a .rising i (suc i) (omega arith) p)) in
+        = rising-back b (before .0) j (before .1) q (rw (e, before .2) at (a .rising i (suc i) (omega arith) p)) in
         omega arith
 
     longer : length vs ≤ length ws
@@ -97,7 +97,8 @@ module _ {S O : Type 0} (m : Machine S O) (R : S → S → Type 0) (eq : Alike R
       → (k ≡ l) × ((i a : ℕ) → i < k → a < m .letters → row i a ≡ wor i a)
   described-unique {k} {l} {row} {wor} d e =
       let one : d .streams ≡ e .streams = arrivals-unique (d .first) (e .first) in
-      let size : k ≡ l = sym (d .count) ∙ ap length one ∙ e .count in
-      (size,
-      λ i a p q.
-      entry-unique (e .streams) (e .first .apart) i a (row i a) (wor i a) (rw one at (d .rows i a p q)) (e .rows i a (omega arith) q))
+      let size : k ≡ l = sym (d .count) ∙ ap length one ∙ e .count in (
+        size,
+        λ i a p q.
+            entry-unique (e .streams) (e .first .apart) i a (row i a) (wor i a) (rw one at (d .rows i a p q)) (e .rows i a (omega arith) q),
+      )

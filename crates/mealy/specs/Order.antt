@@ -13,7 +13,6 @@ Earlier (a ∷ v) (b ∷ w) = (a < b) ⊎ ((a ≡ b) × Earlier v w)
 
 infix 40 _≺_ _≼_
 infixl 60 _▹_
-
 -- v arrives before w
 pub data _≺_ (v w : List ℕ) : Type 0 where
   shorter : length v < length w → v ≺ w
