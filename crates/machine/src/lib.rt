@@ -1,0 +1,2 @@
+// The minimal machine of two models and a way.
+mod index;
