@@ -3,7 +3,7 @@ use Prim.Native.Nat.{ℕ, _+_, _*_, _%_, _≤_, _<_}
 use mathlib.Core.Path.{_≡_}
 use mathlib.Core.Bool.{Bool, true, false}
 use mathlib.Core.List.{List}
-use lib.ListN.{length, getD}
+use lib.ListN.{length, getD, set}
 use Rattle.machine.specs.declared.index.Found.{Found}
 
 abbrev pub capacity : ℕ
@@ -47,3 +47,18 @@ Absent needs lows count need low = (p : ℕ) → p < count → Pair needs lows n
 abbrev pub FoundAt : List ℕ → List ℕ → ℕ → ℕ → ℕ → Found → Type 0
 FoundAt needs lows count need low (Found.At p) = (p < count) × Pair needs lows need low p
 FoundAt needs lows count need low Found.Nothing = Absent needs lows count need low
+
+-- the pair stands at the next place, and all else is as it was
+pub record Pushed (needs lows : List ℕ) (count need low : ℕ) (needs′ lows′ heads nexts : List ℕ) : Type 0 where
+  pub same-needs : needs′ ≡ set needs count need
+  pub same-lows : lows′ ≡ set lows count low
+  pub index : Index needs′ lows′ heads nexts (count + 1)
+
+-- the place of a pair: where it stands already; or the next one, where it stood nowhere and stands now, or where there is no room for it
+pub data Placed (needs lows : List ℕ) (count need low : ℕ) (needs′ lows′ heads nexts : List ℕ) (r : ℕ) : Type 0 where
+  known : r < count → Pair needs lows need low r → needs′ ≡ needs → lows′ ≡ lows → Index needs′ lows′ heads nexts count
+      → Placed needs lows count need low needs′ lows′ heads nexts r
+  added : r ≡ count → Absent needs lows count need low → count < capacity → Pushed needs lows count need low needs′ lows′ heads nexts
+      → Placed needs lows count need low needs′ lows′ heads nexts r
+  full : r ≡ count → Absent needs lows count need low → count ≡ capacity → needs′ ≡ needs → lows′ ≡ lows
+      → Placed needs lows count need low needs′ lows′ heads nexts r

@@ -3,7 +3,7 @@
 ghost use mathlib.Core.Path.{_≡_};
 ghost use Prim.Native.Nat.{ℕ, _+_, _<_, _≤_};
 ghost use lib.ListN.{getD, set, length};
-ghost use Rattle.machine.specs.Index.{bucketOf, capacity, Index, Holds, FoundAt};
+ghost use Rattle.machine.specs.Index.{bucketOf, capacity, Index, Holds, FoundAt, Pushed, Placed};
 
 pub enum Found {
     At(usize),
@@ -58,4 +58,49 @@ fn find<'a>(
         cursor = wide(nexts[place]);
     }
     Found::Nothing
+}
+
+// Puts a pair at the next place.
+fn push(
+    needs: &mut [u64],
+    lows: &mut [u64],
+    heads: &mut [u16],
+    nexts: &mut [u16],
+    count: usize,
+    need: u64,
+    low: u64,
+)
+    requires { ⌜ Index (now needs) (now lows) (now heads) (now nexts) count ⌝ }
+    requires { ⌜ count < capacity ⌝ }
+    ensures { λ _. ⌜ Pushed (now (needs .entry)) (now (lows .entry)) count need low (now (needs .exit)) (now (lows .exit)) (now (heads .exit)) (now (nexts .exit)) ⌝ }
+{
+    let b = bucket(need, low);
+    let link = (count + 1) as u16;
+    needs[count] = need;
+    lows[count] = low;
+    nexts[count] = heads[b];
+    heads[b] = link;
+}
+
+// The place of a pair, which is put at the next place where it stands nowhere yet and there is room.
+pub fn place(
+    needs: &mut [u64],
+    lows: &mut [u64],
+    heads: &mut [u16],
+    nexts: &mut [u16],
+    count: usize,
+    need: u64,
+    low: u64,
+) -> usize
+    requires { ⌜ Index (now needs) (now lows) (now heads) (now nexts) count ⌝ }
+    ensures { λ r. ⌜ Placed (now (needs .entry)) (now (lows .entry)) count need low (now (needs .exit)) (now (lows .exit)) (now (heads .exit)) (now (nexts .exit)) r ⌝ }
+{
+    if let Found::At(p) = find(needs, lows, heads, nexts, count, need, low) {
+        return p;
+    }
+    if count == 4096 {
+        return count;
+    }
+    push(needs, lows, heads, nexts, count, need, low);
+    count
 }
