@@ -1,2 +1,3 @@
 // The minimal machine of two models and a way.
 mod index;
+mod refine;

@@ -6,3 +6,4 @@ pub mod Describing
 pub mod Exploring
 pub mod Refining
 pub mod States
+pub mod Numbering
