@@ -1,2 +1,3 @@
 pub mod Links
 pub mod Filled
+pub mod Naming

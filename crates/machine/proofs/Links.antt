@@ -75,7 +75,7 @@ module _ {needs lows heads nexts : List ℕ} {count : ℕ} (x : Index needs lows
 
   new-bucket : bucketAt needs′ lows′ count ≡ b
   new-bucket =
-      ap₂ bucketOf (getD-set-same needs count need 0 (omega (arith, x .all-needs))) (getD-set-same lows count low 0 (omega (arith, x .all-lows)))
+      ap₂ bucketOf (getD-set-same needs count need 0 (omega (arith, x .scratch .all-needs))) (getD-set-same lows count low 0 (omega (arith, x .scratch .all-lows)))
 
   old-link : {n c link : ℕ} → n ≤ count → Link needs lows n c link → Link needs′ lows′ n c link
   old-link h l =
@@ -112,13 +112,16 @@ module _ {needs lows heads nexts : List ℕ} {count : ℕ} (x : Index needs lows
   push-index =
       record {
         fits = omega arith;
-        all-needs = simp length-set (x .all-needs);
-        all-lows = simp length-set (x .all-lows);
-        all-heads = simp length-set (x .all-heads);
-        all-nexts = simp length-set (x .all-nexts);
+        scratch =
+            record {
+              all-needs = simp length-set (x .scratch .all-needs);
+              all-lows = simp length-set (x .scratch .all-lows);
+              all-heads = simp length-set (x .scratch .all-heads);
+              all-nexts = simp length-set (x .scratch .all-nexts);
+            };
         head = λ c h.
             elim (ℕ-discrete c b) [
-              | yes e ↦ rw (e, getD-set-same heads b (count + 1) 0 (rw (x .all-heads) in-range)) new-head
+              | yes e ↦ rw (e, getD-set-same heads b (count + 1) 0 (rw (x .scratch .all-heads) in-range)) new-head
               | no e ↦ rw (getD-set-other heads b c (count + 1) 0 e) (other-head c h e)
             ];
         next = λ p h.
@@ -127,7 +130,7 @@ module _ {needs lows heads nexts : List ℕ} {count : ℕ} (x : Index needs lows
             rw (getD-set-other nexts count p (getD heads b 0) 0 (omega arith), old-bucket p r) (old-link (omega arith) (x .next p r)))
             (⊎-elim
             (λ (r : p ≡ count).
-            rw (r, getD-set-same nexts count (getD heads b 0) 0 (omega (arith, x .all-nexts)), new-bucket) (old-link (omega arith) (x .head b in-range)))
+            rw (r, getD-set-same nexts count (getD heads b 0) 0 (omega (arith, x .scratch .all-nexts)), new-bucket) (old-link (omega arith) (x .head b in-range)))
             (λ (r : count < p). absurd (omega arith)))
             (order p count);
       }

@@ -21,13 +21,17 @@ pub record Link (needs lows : List ℕ) (n b link : ℕ) : Type 0 where
   pub own : (p : ℕ) → link ≡ p + 1 → bucketAt needs lows p ≡ b
   pub last : (p : ℕ) → p < n → bucketAt needs lows p ≡ b → p < link
 
--- count pairs, with the links to them
-pub record Index (needs lows heads nexts : List ℕ) (count : ℕ) : Type 0 where
-  pub fits : count ≤ capacity
+-- the arrays of an index, whatever they hold
+pub record Scratch (needs lows heads nexts : List ℕ) : Type 0 where
   pub all-needs : length needs ≡ capacity
   pub all-lows : length lows ≡ capacity
   pub all-heads : length heads ≡ capacity
   pub all-nexts : length nexts ≡ capacity
+
+-- count pairs, with the links to them
+pub record Index (needs lows heads nexts : List ℕ) (count : ℕ) : Type 0 where
+  pub fits : count ≤ capacity
+  pub scratch : Scratch needs lows heads nexts
   pub head : (b : ℕ) → b < capacity → Link needs lows count b (getD heads b 0)
   pub next : (p : ℕ) → p < count → Link needs lows p (bucketAt needs lows p) (getD nexts p 0)
 

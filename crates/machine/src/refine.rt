@@ -2,10 +2,12 @@
 // first occur. The table has a word for each situation and letter.
 ghost use mathlib.Core.Path.{_≡_};
 ghost use mathlib.Core.List.{List};
-ghost use Prim.Native.Nat.{ℕ, _+_, _*_, _^_, _<_, _≤_};
+ghost use Prim.Native.Nat.{ℕ, _+_, _*_, _^_, _<_, _≤_, max};
 ghost use lib.ListN.{length, getD, replicate};
-ghost use Rattle.machine.specs.Index.{capacity};
+ghost use Rattle.machine.specs.Index.{capacity, Scratch};
+ghost use Rattle.machine.specs.Refine.{Named};
 ghost use Rattle.machine.specs.Words.{stride, words, seen, key};
+use crate::index;
 
 fn wide_class(x: u8) -> usize
     ensures { λ r. ⌜ (r ≡ x) × (r < 256) ⌝ }
@@ -49,4 +51,42 @@ fn clear(heads: &mut [u16])
         heads[b] = 0;
         b += 1;
     }
+}
+
+fn larger(x: usize, y: usize) -> usize
+    ensures { λ r. ⌜ r ≡ max x y ⌝ }
+{
+    if x < y { y } else { x }
+}
+
+// Splits the classes of k situations by what letter a shows, into finer classes, whose count it gives; 256 where they are more than 255.
+fn split_by<'a>(
+    table: &'a [u32],
+    classes: &'a [u8],
+    finer: &mut [u8],
+    needs: &mut [u64],
+    lows: &mut [u64],
+    heads: &mut [u16],
+    nexts: &mut [u16],
+    k: usize,
+    a: usize,
+) -> usize
+    requires { ⌜ (k ≤ capacity) × (a < stride) × (length (now table) ≡ words) × (length (now classes) ≡ capacity) × (length (now finer) ≡ capacity) ⌝ }
+    requires { ⌜ Scratch (now needs) (now lows) (now heads) (now nexts) ⌝ }
+    ensures { λ r. ⌜ Named k (key (now (table .entry)) (now (classes .entry)) a) (now (finer .exit)) r ⌝ }
+{
+    clear(heads);
+    let mut count = 0;
+    let mut i = 0;
+    while i < k {
+        let named = key_of(table, classes, i, a);
+        let q = index::place(needs, lows, heads, nexts, count, named, 0);
+        if q == 255 {
+            return 256;
+        }
+        finer[i] = q as u8;
+        count = larger(count, q + 1);
+        i += 1;
+    }
+    count
 }
