@@ -5,8 +5,8 @@ ghost use mathlib.Core.List.{List};
 ghost use Prim.Native.Nat.{ℕ, _+_, _*_, _^_, _<_, _≤_, max};
 ghost use lib.ListN.{length, getD, replicate};
 ghost use Rattle.machine.specs.Index.{capacity, Scratch};
-ghost use Rattle.machine.specs.Refine.{Named};
-ghost use Rattle.machine.specs.Words.{stride, words, seen, key};
+ghost use Rattle.machine.specs.Refine.{Named, Begun, Rounded};
+ghost use Rattle.machine.specs.Words.{stride, words, tabled, seen, key};
 use crate::index;
 
 fn wide_class(x: u8) -> usize
@@ -87,6 +87,37 @@ fn split_by<'a>(
         finer[i] = q as u8;
         count = larger(count, q + 1);
         i += 1;
+    }
+    count
+}
+
+// One round: splits the classes by one letter after another, and gives their count; 256 where they are more than 255.
+fn split_all<'a>(
+    table: &'a [u32],
+    classes: &mut [u8],
+    finer: &mut [u8],
+    needs: &mut [u64],
+    lows: &mut [u64],
+    heads: &mut [u16],
+    nexts: &mut [u16],
+    k: usize,
+    letters: usize,
+    began: usize,
+) -> usize
+    requires { ⌜ (length (now table) ≡ words) × (length (now finer) ≡ capacity) ⌝ }
+    requires { ⌜ Scratch (now needs) (now lows) (now heads) (now nexts) ⌝ }
+    requires { ⌜ Begun (tabled letters (now table)) k (now classes) began ⌝ }
+    ensures { λ r. ⌜ Rounded (tabled letters (now (table .entry))) k began (now (classes .exit)) r ⌝ }
+{
+    let mut count = began;
+    let mut a = 0;
+    while a < letters {
+        count = split_by(table, classes, finer, needs, lows, heads, nexts, k, a);
+        if 255 < count {
+            return count;
+        }
+        bytes::copy(finer, classes);
+        a += 1;
     }
     count
 }
