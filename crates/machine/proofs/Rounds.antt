@@ -1,5 +1,5 @@
 -- Rounds of splitting by every letter: how one goes, and when they are over. Assumes nothing.
-use Prim.Native.Nat.{ℕ, _+_, _≤_, _<_}
+use Prim.Native.Nat.{ℕ, _+_, _-_, _≤_, _<_}
 use mathlib.Core.Path.{_≡_, refl, sym, _∙_, ap}
 use mathlib.Core.List.{List, [], _++_, append-nil}
 use native.Mathlib.Omega.{arith}
@@ -9,8 +9,8 @@ use Rattle.mealy.specs.Runs.{Machine}
 use Rattle.mealy.specs.Classes.{Numbering, Closed, Coarse, Round, States}
 use Rattle.mealy.proofs.Refining.{split-coarse, round-start, round-next, round-end}
 use Rattle.machine.specs.Index.{capacity, Scratch}
-use Rattle.machine.specs.Words.{stride, at, tabled, key}
-use Rattle.machine.specs.Refine.{Named, named, crowded, Crowd, Rounded, rounded, overfull, Begun}
+use Rattle.machine.specs.Words.{stride, words, at, tabled, key}
+use Rattle.machine.specs.Refine.{Named, named, crowded, Crowd, Rounded, rounded, overfull, Refined, refined, overmany, Begun}
 use Rattle.machine.proofs.Keys.{key-split}
 
 -- a list copied over one of its length
@@ -92,3 +92,59 @@ pub going-end : {letters : ℕ} {table : List ℕ} {k began : ℕ} {classes fine
 going-end {letters} {a = a} x h =
     let e : a ≡ letters = omega (arith, x .here) in
     rounded (x .begun .few) (rw e at (x .round))
+
+-- rounds after rounds
+pub record Refining (letters : ℕ) (table : List ℕ) (k : ℕ) (classes finer needs lows heads nexts : List ℕ) (count : ℕ) : Type 0 where
+  pub begun : Begun (tabled letters table) k classes count
+  pub whole : length table ≡ words
+  pub spare : length finer ≡ capacity
+  pub scratch : Scratch needs lows heads nexts
+
+pub refining-start : {letters : ℕ} {table : List ℕ} {k : ℕ} {classes finer needs lows heads nexts : List ℕ} {began : ℕ}
+    → Begun (tabled letters table) k classes began → (length table ≡ words) × (length finer ≡ capacity) → Scratch needs lows heads nexts
+    → Refining letters table k classes finer needs lows heads nexts began
+refining-start x f s = record { begun = x; whole = f .0; spare = f .1; scratch = s }
+
+module _ {letters : ℕ} {table : List ℕ} {k : ℕ} {classes finer needs lows heads nexts : List ℕ} {count : ℕ}
+    (x : Refining letters table k classes finer needs lows heads nexts count) {classes′ : List ℕ} {r : ℕ}
+    (y : Rounded (tabled letters table) k count classes′ r) where
+  pub refining-crowd : 255 < r → Refined (tabled letters table) k classes′ r
+  refining-crowd h = look y
+    where
+      look : Rounded (tabled letters table) k count classes′ r → Refined (tabled letters table) k classes′ r
+      look (rounded few round) = absurd (omega arith)
+      look (overfull e crowd) = overmany e crowd
+
+  inside : r ≤ 255 → Round (tabled letters table) k count (at classes′) r letters
+  inside h = look y
+    where
+      look : Rounded (tabled letters table) k count classes′ r → Round (tabled letters table) k count (at classes′) r letters
+      look (rounded few round) = round
+      look (overfull e crowd) = absurd (omega arith)
+
+  -- a round that left the count as it was
+  pub refining-end : r ≤ 255 → r ≡ count → Refined (tabled letters table) k classes′ r
+  refining-end h e = refined h (round-end (x .begun .closed) (rw (← e) at (inside h)))
+
+  pub refining-less : r ≤ 255 → (r ≡ count → ⊥) → 256 - r < 256 - count
+  refining-less h unlike = omega (arith, inside h .grown, unlike)
+
+  pub refining-next : r ≤ 255 → length classes′ ≡ length classes → {finer′ : List ℕ} → length finer′ ≡ length finer
+      → {needs′ lows′ heads′ nexts′ : List ℕ} → Scratch needs′ lows′ heads′ nexts′
+      → Refining letters table k classes′ finer′ needs′ lows′ heads′ nexts′ r
+  refining-next h size spare s =
+      record {
+        begun =
+            record {
+              closed = x .begun .closed;
+              fits = x .begun .fits;
+              letters = x .begun .letters;
+              few = h;
+              room = size ∙ x .begun .room;
+              numbering = inside h .numbering;
+              coarse = inside h .coarse;
+            };
+        whole = x .whole;
+        spare = spare ∙ x .spare;
+        scratch = s;
+      }

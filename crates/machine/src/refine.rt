@@ -5,7 +5,7 @@ ghost use mathlib.Core.List.{List};
 ghost use Prim.Native.Nat.{ℕ, _+_, _*_, _^_, _<_, _≤_, max};
 ghost use lib.ListN.{length, getD, replicate};
 ghost use Rattle.machine.specs.Index.{capacity, Scratch};
-ghost use Rattle.machine.specs.Refine.{Named, Begun, Rounded};
+ghost use Rattle.machine.specs.Refine.{Named, Begun, Rounded, Refined};
 ghost use Rattle.machine.specs.Words.{stride, words, tabled, seen, key};
 use crate::index;
 
@@ -120,4 +120,47 @@ fn split_all<'a>(
         a += 1;
     }
     count
+}
+
+// Splits the classes round after round, until a round leaves their count as it was: then each class is one state. Gives the count; 256 where the
+// states are more than 255.
+pub fn refine<'a>(
+    table: &'a [u32],
+    classes: &mut [u8],
+    finer: &mut [u8],
+    needs: &mut [u64],
+    lows: &mut [u64],
+    heads: &mut [u16],
+    nexts: &mut [u16],
+    k: usize,
+    letters: usize,
+    began: usize,
+) -> usize
+    requires { ⌜ (length (now table) ≡ words) × (length (now finer) ≡ capacity) ⌝ }
+    requires { ⌜ Scratch (now needs) (now lows) (now heads) (now nexts) ⌝ }
+    requires { ⌜ Begun (tabled letters (now table)) k (now classes) began ⌝ }
+    ensures { λ r. ⌜ Refined (tabled letters (now (table .entry))) k (now (classes .exit)) r ⌝ }
+{
+    let mut count = began;
+    loop {
+        let more = split_all(
+            table,
+            classes,
+            finer,
+            needs,
+            lows,
+            heads,
+            nexts,
+            k,
+            letters,
+            count,
+        );
+        if 255 < more {
+            return more;
+        }
+        if more == count {
+            return more;
+        }
+        count = more;
+    }
 }
