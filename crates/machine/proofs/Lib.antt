@@ -3,3 +3,4 @@ pub mod Filled
 pub mod Naming
 pub mod Keys
 pub mod Rounds
+pub mod Entries

@@ -83,7 +83,7 @@ fn push(
 }
 
 // The place of a pair, which is put at the next place where it stands nowhere yet and there is room.
-pub fn place(
+pub(crate) fn place(
     needs: &mut [u64],
     lows: &mut [u64],
     heads: &mut [u16],

@@ -9,13 +9,13 @@ ghost use Rattle.machine.specs.Refine.{Named, Begun, Rounded, Refined};
 ghost use Rattle.machine.specs.Words.{stride, words, tabled, seen, key};
 use crate::index;
 
-fn wide_class(x: u8) -> usize
+pub(crate) fn wide_class(x: u8) -> usize
     ensures { λ r. ⌜ (r ≡ x) × (r < 256) ⌝ }
 {
     x as usize
 }
 
-fn wide_word(x: u32) -> usize
+pub(crate) fn wide_word(x: u32) -> usize
     ensures { λ r. ⌜ (r ≡ x) × (r < 2 ^ 32) ⌝ }
 {
     x as usize
@@ -124,7 +124,7 @@ fn split_all<'a>(
 
 // Splits the classes round after round, until a round leaves their count as it was: then each class is one state. Gives the count; 256 where the
 // states are more than 255.
-pub fn refine<'a>(
+pub(crate) fn refine<'a>(
     table: &'a [u32],
     classes: &mut [u8],
     finer: &mut [u8],
