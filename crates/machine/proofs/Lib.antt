@@ -4,3 +4,4 @@ pub mod Naming
 pub mod Keys
 pub mod Rounds
 pub mod Entries
+pub mod Firsts

@@ -46,3 +46,8 @@ pub record RowsWritten (rows : List ℕ) (n : ℕ) (f : ℕ → ℕ → ℕ) (ro
 -- the words of the table are refusals, or have an output that is a byte
 pub record Narrow (table : List ℕ) : Type 0 where
   pub narrow : (p : ℕ) → at table p < 1052672
+
+-- where situation i is the first of class q its row is written, and otherwise nothing
+pub data FirstWritten (class q : ℕ) (rows : List ℕ) (f : ℕ → ℕ) (rows′ : List ℕ) (r : ℕ) : Type 0 where
+  later : (class ≡ q → ⊥) → rows′ ≡ rows → r ≡ q → FirstWritten class q rows f rows′ r
+  first : class ≡ q → RowWritten rows q f stride rows′ → r ≡ q + 1 → FirstWritten class q rows f rows′ r

@@ -5,7 +5,7 @@ ghost use lib.ListN.{length};
 ghost use Rattle.mealy.specs.Classes.{Numbering};
 ghost use Rattle.machine.specs.Index.{capacity};
 ghost use Rattle.machine.specs.Words.{stride, words, at};
-ghost use Rattle.machine.specs.Rows.{stateWord, stateEntry, RowWritten, RowsWritten, Narrow};
+ghost use Rattle.machine.specs.Rows.{stateWord, stateEntry, RowWritten, RowsWritten, FirstWritten, Narrow};
 use crate::refine;
 
 // The word of a state where the table has this word.
@@ -50,5 +50,49 @@ fn write_row<'a>(
     while a < 20 {
         rows[q * 20 + a] = state_entry(table, classes, letters, i, a);
         a += 1;
+    }
+}
+
+// Writes row q where situation i is of class q, and gives the next class to come.
+fn write_first<'a>(
+    table: &'a [u32],
+    classes: &'a [u8],
+    rows: &mut [u16],
+    letters: usize,
+    i: usize,
+    q: usize,
+) -> usize
+    requires { ⌜ (i < capacity) × (length (now table) ≡ words) × (length (now classes) ≡ capacity) ⌝ }
+    requires { ⌜ (at (now classes) i ≡ q → q * stride + stride ≤ length (now rows)) ⌝ }
+    requires { ⌜ Narrow (now table) ⌝ }
+    ensures { λ r. ⌜ FirstWritten (at (now (classes .entry)) i) q (now (rows .entry)) (stateEntry (now (table .entry)) (now (classes .entry)) letters i) (now (rows .exit)) r ⌝ }
+{
+    let class = refine::wide_class(classes[i]);
+    if class != q {
+        return q;
+    }
+    write_row(table, classes, rows, letters, i, q);
+    q + 1
+}
+
+// Writes the rows of n states, the classes of k situations.
+pub(crate) fn write_rows<'a>(
+    table: &'a [u32],
+    classes: &'a [u8],
+    rows: &mut [u16],
+    letters: usize,
+    k: usize,
+    n: usize,
+)
+    requires { ⌜ (k ≤ capacity) × (length (now table) ≡ words) × (length (now classes) ≡ capacity) × (n * stride ≤ length (now rows)) ⌝ }
+    requires { ⌜ Narrow (now table) ⌝ }
+    requires { ⌜ Numbering k (at (now classes)) n ⌝ }
+    ensures { λ _. ⌜ ((x : Numbering k (at (now (classes .entry))) n) → RowsWritten (now (rows .entry)) n (λ q. stateEntry (now (table .entry)) (now (classes .entry)) letters (x .firsts q)) (now (rows .exit))) ⌝ }
+{
+    let mut q = 0;
+    let mut i = 0;
+    while i < k {
+        q = write_first(table, classes, rows, letters, i, q);
+        i += 1;
     }
 }
