@@ -1,12 +1,12 @@
 -- A key is a class with what a letter shows of it. Assumes nothing.
 use Prim.Native.Nat.{ℕ, _+_, _-_, _*_, _/_, _%_, _≤_, _<_}
-use mathlib.Core.Path.{_≡_, refl, sym, _∙_, ap, ap₂}
+use mathlib.Core.Path.{_≡_, refl, sym, _∙_, ap₂}
 use mathlib.Core.Logic.{_↔_}
 use mathlib.Core.List.{List}
 use native.Mathlib.Omega.{arith}
 use native.Mathlib.Decide.{decLt}
 use borrow.Author.Tests.{lt-ltb, le-ltb}
-use Rattle.mealy.specs.Runs.{Answer, refused, taken, Machine}
+use Rattle.mealy.specs.Runs.{refused, taken}
 use Rattle.mealy.specs.Classes.{classed, Closed, Split}
 use Rattle.mealy.proofs.Runs.{untaken}
 use Rattle.mealy.proofs.Describing.{numbered-step}

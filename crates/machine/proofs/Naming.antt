@@ -5,11 +5,11 @@ use mathlib.Core.Path.{_≡_, refl, sym, _∙_, ap}
 use mathlib.Core.Logic.{_⊎_, inl, inr, ⊎-elim, _↔_}
 use mathlib.Core.List.{List}
 use native.Mathlib.Omega.{arith}
-use lib.ListN.{length, getD, set, replicate, length-set, length-replicate, getD-replicate}
+use lib.ListN.{length, set, replicate, length-set, length-replicate, getD-replicate}
 use lib.Seq.{getD-set-same, getD-set-other}
 use Rattle.mealy.specs.Classes.{Numbering}
 use Rattle.mealy.proofs.Numbering.{split-last, numbering-none, numbering-known, numbering-new}
-use Rattle.machine.specs.Index.{capacity, bucketAt, Link, Scratch, Index, Pair, Absent, Pushed, Placed, known, added, full}
+use Rattle.machine.specs.Index.{capacity, Scratch, Index, Pair, Absent, Pushed, Placed, known, added, full}
 use Rattle.machine.specs.Words.{at}
 use Rattle.machine.specs.Refine.{ByKey, Named, named, crowded}
 

@@ -1,16 +1,15 @@
 -- Rounds of splitting by every letter: how one goes, and when they are over. Assumes nothing.
 use Prim.Native.Nat.{ℕ, _+_, _-_, _≤_, _<_}
-use mathlib.Core.Path.{_≡_, refl, sym, _∙_, ap}
-use mathlib.Core.List.{List, [], _++_, append-nil}
+use mathlib.Core.Path.{_≡_, _∙_}
+use mathlib.Core.List.{List, _++_, append-nil}
 use native.Mathlib.Omega.{arith}
 use lib.ListN.{length, take, drop, drop-of-length-le}
 use lib.Seq.{take-all}
-use Rattle.mealy.specs.Runs.{Machine}
-use Rattle.mealy.specs.Classes.{Numbering, Closed, Coarse, Round, States}
+use Rattle.mealy.specs.Classes.{Coarse, Round}
 use Rattle.mealy.proofs.Refining.{split-coarse, round-start, round-next, round-end}
 use Rattle.machine.specs.Index.{capacity, Scratch}
-use Rattle.machine.specs.Words.{stride, words, at, tabled, key}
-use Rattle.machine.specs.Refine.{Named, named, crowded, Crowd, Rounded, rounded, overfull, Refined, refined, overmany, Begun}
+use Rattle.machine.specs.Words.{words, at, tabled, key}
+use Rattle.machine.specs.Refine.{Named, named, crowded, Rounded, rounded, overfull, Refined, refined, overmany, Begun}
 use Rattle.machine.proofs.Keys.{key-split}
 
 -- a list copied over one of its length

@@ -8,7 +8,6 @@ use lib.ListN.{length}
 use lib.Dec.{ltb, eqb}
 use Rattle.mealy.specs.Runs.{Answer, refused, taken, Machine}
 use Rattle.mealy.specs.Arrivals.{within, numbered}
-use Rattle.mealy.specs.Classes.{Numbering}
 use Rattle.machine.specs.Words.{stride, at}
 
 -- what a word says

@@ -1,8 +1,8 @@
 // Pairs of numbers in two arrays, in the order in which they were put, found again by a hash: the places of one bucket are a chain whose
 // links fall, so a search ends where its cursor does.
 ghost use mathlib.Core.Path.{_≡_};
-ghost use Prim.Native.Nat.{ℕ, _+_, _<_, _≤_};
-ghost use lib.ListN.{getD, set, length};
+ghost use Prim.Native.Nat.{_+_, _<_};
+ghost use lib.ListN.{length};
 ghost use Rattle.machine.specs.Index.{bucketOf, capacity, Index, Holds, FoundAt, Pushed, Placed};
 
 pub enum Found {

@@ -1,9 +1,8 @@
 // Classes of situations: all one at first, then split by what one letter after another shows, and numbered in the order in which they
 // first occur. The table has a word for each situation and letter.
 ghost use mathlib.Core.Path.{_≡_};
-ghost use mathlib.Core.List.{List};
-ghost use Prim.Native.Nat.{ℕ, _+_, _*_, _^_, _<_, _≤_, max};
-ghost use lib.ListN.{length, getD, replicate};
+ghost use Prim.Native.Nat.{_+_, _*_, _^_, _<_, _≤_, max};
+ghost use lib.ListN.{length, replicate};
 ghost use Rattle.machine.specs.Index.{capacity, Scratch};
 ghost use Rattle.machine.specs.Refine.{Named, Begun, Rounded, Refined};
 ghost use Rattle.machine.specs.Words.{stride, words, tabled, seen, key};

@@ -1,6 +1,6 @@
 // The rows of the states, each read off the first situation of its class.
 ghost use mathlib.Core.Path.{_≡_};
-ghost use Prim.Native.Nat.{ℕ, _+_, _*_, _<_, _≤_};
+ghost use Prim.Native.Nat.{_+_, _*_, _<_, _≤_};
 ghost use lib.ListN.{length};
 ghost use Rattle.mealy.specs.Classes.{Numbering};
 ghost use Rattle.machine.specs.Index.{capacity};

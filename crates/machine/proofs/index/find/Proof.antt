@@ -1,7 +1,6 @@
 use borrow.Author.Needs.{needs}
 use native.Mathlib.Omega.{arith}
-use mathlib.Core.Path.{_≡_, refl, sym, _∙_}
-use Prim.Native.Nat.{ℕ, _+_, _-_, _*_, _≤_, _<_}
+use mathlib.Core.Path.{refl}
 use Rattle.machine.proofs.Links.{Seeking, seek-start, seek-next, seek-end, seek-less}
 use Rattle.machine.proofs.index.find.Statement.{statement}
 use Rattle.machine.proofs.index.find.Tie as tie

@@ -1,7 +1,7 @@
 use native.Mathlib.Omega.{arith}
 use mathlib.Core.Path.{refl}
 use borrow.Author.Needs.{needs}
-use Rattle.machine.specs.Index.{Placed, known, added, full}
+use Rattle.machine.specs.Index.{known, added, full}
 use Rattle.machine.proofs.index.place.Statement.{statement}
 use Rattle.machine.proofs.index.place.Tie as tie
 use Rattle.machine.proofs.index.place.Reads as reads

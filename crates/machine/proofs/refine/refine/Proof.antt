@@ -1,7 +1,5 @@
 use borrow.Author.Needs.{needs}
-use native.Mathlib.Omega.{arith}
-use mathlib.Core.Path.{_≡_, refl, sym, _∙_}
-use Prim.Native.Nat.{ℕ, _+_, _-_, _*_, _≤_, _<_}
+use Prim.Native.Nat.{_-_}
 use Rattle.machine.proofs.Rounds.{Refining, refining-start, refining-crowd, refining-end, refining-less, refining-next, scratch-kept}
 use Rattle.machine.proofs.refine.refine.Statement.{statement}
 use Rattle.machine.proofs.refine.refine.Tie as tie

@@ -1,7 +1,6 @@
 use borrow.Author.Needs.{needs}
 use native.Mathlib.Omega.{arith}
-use mathlib.Core.Path.{_≡_, refl, sym, _∙_}
-use Prim.Native.Nat.{ℕ, _+_, _-_, _*_, _≤_, _<_}
+use Prim.Native.Nat.{_-_}
 use Rattle.machine.specs.Words.{key}
 use Rattle.machine.proofs.Naming.{placed-low, Splitting, splitting-start, splitting-next, splitting-crowded, splitting-end}
 use Rattle.machine.proofs.refine.split_by.Statement.{statement}

@@ -1,7 +1,6 @@
 use borrow.Author.Needs.{needs}
 use native.Mathlib.Omega.{arith}
-use mathlib.Core.Path.{_≡_, refl, sym, _∙_}
-use Prim.Native.Nat.{ℕ, _+_, _-_, _*_, _≤_, _<_}
+use Prim.Native.Nat.{_-_, _≤_}
 use Rattle.machine.specs.Words.{stride}
 use Rattle.machine.specs.Rows.{stateEntry, RowWritten}
 use Rattle.machine.proofs.Entries.{row-start, row-next, row-end}
