@@ -17,35 +17,33 @@ pub copied : (from to into : List ℕ) → to ≡ take (length from) from ++ dro
 copied from to into e h =
     e ∙ rw (take-all (length from) from (omega arith), drop-of-length-le into {i = length from} (omega arith), append-nil)
 
-pub record Going (letters : ℕ) (table : List ℕ) (k began : ℕ) (classes finer needs lows heads nexts : List ℕ) (count a : ℕ) : Type 0 where
+pub record Going (letters : ℕ) (table : List ℕ) (k began : ℕ) (classes finer pairs links : List ℕ) (count a : ℕ) : Type 0 where
   pub begun : Begun (tabled letters table) k classes count
   pub spare : length finer ≡ capacity
-  pub scratch : Scratch needs lows heads nexts
+  pub scratch : Scratch pairs links
   pub round : Round (tabled letters table) k began (at classes) count a
   pub here : a ≤ letters
 
-pub going-start : {letters : ℕ} {table : List ℕ} {k : ℕ} {classes finer needs lows heads nexts : List ℕ} {began : ℕ}
-    → Begun (tabled letters table) k classes began → length finer ≡ capacity → Scratch needs lows heads nexts
-    → Going letters table k began classes finer needs lows heads nexts began 0
+pub going-start : {letters : ℕ} {table : List ℕ} {k : ℕ} {classes finer pairs links : List ℕ} {began : ℕ}
+    → Begun (tabled letters table) k classes began → length finer ≡ capacity → Scratch pairs links
+    → Going letters table k began classes finer pairs links began 0
 going-start x f s =
     record { begun = x; spare = f; scratch = s; round = round-start (x .closed) (x .numbering) (x .coarse); here = omega arith }
 
-pub scratch-kept : {needs lows heads nexts needs′ lows′ heads′ nexts′ : List ℕ} → Scratch needs lows heads nexts
-    → length needs′ ≡ length needs → length lows′ ≡ length lows → length heads′ ≡ length heads → length nexts′ ≡ length nexts
-    → Scratch needs′ lows′ heads′ nexts′
-scratch-kept x a b c d =
-    record { all-needs = a ∙ x .all-needs; all-lows = b ∙ x .all-lows; all-heads = c ∙ x .all-heads; all-nexts = d ∙ x .all-nexts }
+pub scratch-kept : {pairs links pairs′ links′ : List ℕ} → Scratch pairs links → length pairs′ ≡ length pairs → length links′ ≡ length links
+    → Scratch pairs′ links′
+scratch-kept x a b = record { all-pairs = a ∙ x .all-pairs; all-links = b ∙ x .all-links }
 
-module _ {letters : ℕ} {table : List ℕ} {k began : ℕ} {classes finer needs lows heads nexts : List ℕ} {count a : ℕ}
-    (x : Going letters table k began classes finer needs lows heads nexts count a) (more : a < letters) where
+module _ {letters : ℕ} {table : List ℕ} {k began : ℕ} {classes finer pairs links : List ℕ} {count a : ℕ}
+    (x : Going letters table k began classes finer pairs links count a) (more : a < letters) where
   bytes : (i : ℕ) → i < k → at classes i < 256
   bytes i h = omega (arith, x .begun .numbering .below i h, x .begun .few)
 
   -- one letter more
   pub going-next : {finer′ : List ℕ} {r : ℕ} → Named k (key table classes a) finer′ r → r ≤ 255 → length finer′ ≡ length finer
       → {classes′ : List ℕ} → classes′ ≡ take (length finer′) finer′ ++ drop (length finer′) classes
-      → {needs′ lows′ heads′ nexts′ : List ℕ} → Scratch needs′ lows′ heads′ nexts′
-      → Going letters table k began classes′ finer′ needs′ lows′ heads′ nexts′ r (a + 1)
+      → {pairs′ links′ : List ℕ} → Scratch pairs′ links′
+      → Going letters table k began classes′ finer′ pairs′ links′ r (a + 1)
   going-next {finer′} {r} (crowded h p class le numbering by-key) few size copy s = absurd (omega arith)
   going-next {finer′} {r} (named h numbering by-key) few size {classes′} copy s =
       let whole : length finer′ ≡ length classes = omega (arith, x .spare, x .begun .room) in
@@ -85,27 +83,27 @@ module _ {letters : ℕ} {table : List ℕ} {k began : ℕ} {classes finer needs
         coarse = split-coarse (x .begun .closed) p a le (x .begun .coarse) split;
       })
 
-pub going-end : {letters : ℕ} {table : List ℕ} {k began : ℕ} {classes finer needs lows heads nexts : List ℕ} {count a : ℕ}
-    → Going letters table k began classes finer needs lows heads nexts count a → letters ≤ a
+pub going-end : {letters : ℕ} {table : List ℕ} {k began : ℕ} {classes finer pairs links : List ℕ} {count a : ℕ}
+    → Going letters table k began classes finer pairs links count a → letters ≤ a
     → Rounded (tabled letters table) k began classes count
 going-end {letters} {a = a} x h =
     let e : a ≡ letters = omega (arith, x .here) in
     rounded (x .begun .few) (rw e at (x .round))
 
 -- rounds after rounds
-pub record Refining (letters : ℕ) (table : List ℕ) (k : ℕ) (classes finer needs lows heads nexts : List ℕ) (count : ℕ) : Type 0 where
+pub record Refining (letters : ℕ) (table : List ℕ) (k : ℕ) (classes finer pairs links : List ℕ) (count : ℕ) : Type 0 where
   pub begun : Begun (tabled letters table) k classes count
   pub whole : length table ≡ words
   pub spare : length finer ≡ capacity
-  pub scratch : Scratch needs lows heads nexts
+  pub scratch : Scratch pairs links
 
-pub refining-start : {letters : ℕ} {table : List ℕ} {k : ℕ} {classes finer needs lows heads nexts : List ℕ} {began : ℕ}
-    → Begun (tabled letters table) k classes began → (length table ≡ words) × (length finer ≡ capacity) → Scratch needs lows heads nexts
-    → Refining letters table k classes finer needs lows heads nexts began
+pub refining-start : {letters : ℕ} {table : List ℕ} {k : ℕ} {classes finer pairs links : List ℕ} {began : ℕ}
+    → Begun (tabled letters table) k classes began → (length table ≡ words) × (length finer ≡ capacity) → Scratch pairs links
+    → Refining letters table k classes finer pairs links began
 refining-start x f s = record { begun = x; whole = f .0; spare = f .1; scratch = s }
 
-module _ {letters : ℕ} {table : List ℕ} {k : ℕ} {classes finer needs lows heads nexts : List ℕ} {count : ℕ}
-    (x : Refining letters table k classes finer needs lows heads nexts count) {classes′ : List ℕ} {r : ℕ}
+module _ {letters : ℕ} {table : List ℕ} {k : ℕ} {classes finer pairs links : List ℕ} {count : ℕ}
+    (x : Refining letters table k classes finer pairs links count) {classes′ : List ℕ} {r : ℕ}
     (y : Rounded (tabled letters table) k count classes′ r) where
   pub refining-crowd : 255 < r → Refined (tabled letters table) k classes′ r
   refining-crowd h = look y
@@ -129,8 +127,8 @@ module _ {letters : ℕ} {table : List ℕ} {k : ℕ} {classes finer needs lows 
   refining-less h unlike = omega (arith, inside h .grown, unlike)
 
   pub refining-next : r ≤ 255 → length classes′ ≡ length classes → {finer′ : List ℕ} → length finer′ ≡ length finer
-      → {needs′ lows′ heads′ nexts′ : List ℕ} → Scratch needs′ lows′ heads′ nexts′
-      → Refining letters table k classes′ finer′ needs′ lows′ heads′ nexts′ r
+      → {pairs′ links′ : List ℕ} → Scratch pairs′ links′
+      → Refining letters table k classes′ finer′ pairs′ links′ r
   refining-next h size spare s =
       record {
         begun =

@@ -3,7 +3,7 @@ use Prim.Native.Nat.{ℕ, _+_, _*_, _%_, _≤_, _<_}
 use mathlib.Core.Path.{_≡_}
 use mathlib.Core.Bool.{Bool, true, false}
 use mathlib.Core.List.{List}
-use lib.ListN.{length, getD, set}
+use lib.ListN.{length, getD}
 use Rattle.machine.specs.declared.index.Found.{Found}
 
 abbrev pub capacity : ℕ
@@ -12,57 +12,67 @@ capacity = 4096
 abbrev pub bucketOf : ℕ → ℕ → ℕ
 bucketOf need low = (need % 65521 + low % 65537 * 3) % capacity
 
-abbrev pub bucketAt : List ℕ → List ℕ → ℕ → ℕ
-bucketAt needs lows p = bucketOf (getD needs p 0) (getD lows p 0)
+-- the pair at place p, in one array
+abbrev pub needAt : List ℕ → ℕ → ℕ
+needAt pairs p = getD pairs (p * 2) 0
+
+abbrev pub lowAt : List ℕ → ℕ → ℕ
+lowAt pairs p = getD pairs (p * 2 + 1) 0
+
+abbrev pub bucketAt : List ℕ → ℕ → ℕ
+bucketAt pairs p = bucketOf (needAt pairs p) (lowAt pairs p)
+
+-- the link to the last place of bucket b, and the link of place p to the one before it, in one array
+abbrev pub headAt : List ℕ → ℕ → ℕ
+headAt links b = getD links b 0
+
+abbrev pub nextAt : List ℕ → ℕ → ℕ
+nextAt links p = getD links (capacity + p) 0
 
 -- a link to the last place of bucket b below n, in that none of the bucket stands above it
-pub record Link (needs lows : List ℕ) (n b link : ℕ) : Type 0 where
+pub record Link (pairs : List ℕ) (n b link : ℕ) : Type 0 where
   pub within : link ≤ n
-  pub own : (p : ℕ) → link ≡ p + 1 → bucketAt needs lows p ≡ b
-  pub last : (p : ℕ) → p < n → bucketAt needs lows p ≡ b → p < link
+  pub own : (p : ℕ) → link ≡ p + 1 → bucketAt pairs p ≡ b
+  pub last : (p : ℕ) → p < n → bucketAt pairs p ≡ b → p < link
 
 -- the arrays of an index, whatever they hold
-pub record Scratch (needs lows heads nexts : List ℕ) : Type 0 where
-  pub all-needs : length needs ≡ capacity
-  pub all-lows : length lows ≡ capacity
-  pub all-heads : length heads ≡ capacity
-  pub all-nexts : length nexts ≡ capacity
+pub record Scratch (pairs links : List ℕ) : Type 0 where
+  pub all-pairs : length pairs ≡ 2 * capacity
+  pub all-links : length links ≡ 2 * capacity
 
 -- count pairs, with the links to them
-pub record Index (needs lows heads nexts : List ℕ) (count : ℕ) : Type 0 where
+pub record Index (pairs links : List ℕ) (count : ℕ) : Type 0 where
   pub fits : count ≤ capacity
-  pub scratch : Scratch needs lows heads nexts
-  pub head : (b : ℕ) → b < capacity → Link needs lows count b (getD heads b 0)
-  pub next : (p : ℕ) → p < count → Link needs lows p (bucketAt needs lows p) (getD nexts p 0)
+  pub scratch : Scratch pairs links
+  pub head : (b : ℕ) → b < capacity → Link pairs count b (headAt links b)
+  pub next : (p : ℕ) → p < count → Link pairs p (bucketAt pairs p) (nextAt links p)
 
--- the pair at a place
-abbrev pub Pair : List ℕ → List ℕ → ℕ → ℕ → ℕ → Type 0
-Pair needs lows need low p = (getD needs p 0 ≡ need) × (getD lows p 0 ≡ low)
+-- the pair stands at a place
+abbrev pub Pair : List ℕ → ℕ → ℕ → ℕ → Type 0
+Pair pairs need low p = (needAt pairs p ≡ need) × (lowAt pairs p ≡ low)
 
-abbrev pub Holds : List ℕ → List ℕ → ℕ → ℕ → ℕ → Bool → Type 0
-Holds needs lows need low p true = Pair needs lows need low p
-Holds needs lows need low p false = Pair needs lows need low p → ⊥
+abbrev pub Holds : List ℕ → ℕ → ℕ → ℕ → Bool → Type 0
+Holds pairs need low p true = Pair pairs need low p
+Holds pairs need low p false = Pair pairs need low p → ⊥
 
 -- the pair is not among the first count
-abbrev pub Absent : List ℕ → List ℕ → ℕ → ℕ → ℕ → Type 0
-Absent needs lows count need low = (p : ℕ) → p < count → Pair needs lows need low p → ⊥
+abbrev pub Absent : List ℕ → ℕ → ℕ → ℕ → Type 0
+Absent pairs count need low = (p : ℕ) → p < count → Pair pairs need low p → ⊥
 
 -- what a search finds: the pair's place, or that there is none
-abbrev pub FoundAt : List ℕ → List ℕ → ℕ → ℕ → ℕ → Found → Type 0
-FoundAt needs lows count need low (Found.At p) = (p < count) × Pair needs lows need low p
-FoundAt needs lows count need low Found.Nothing = Absent needs lows count need low
+abbrev pub FoundAt : List ℕ → ℕ → ℕ → ℕ → Found → Type 0
+FoundAt pairs count need low (Found.At p) = (p < count) × Pair pairs need low p
+FoundAt pairs count need low Found.Nothing = Absent pairs count need low
 
--- the pair stands at the next place, and all else is as it was
-pub record Pushed (needs lows : List ℕ) (count need low : ℕ) (needs′ lows′ heads nexts : List ℕ) : Type 0 where
-  pub same-needs : needs′ ≡ set needs count need
-  pub same-lows : lows′ ≡ set lows count low
-  pub index : Index needs′ lows′ heads nexts (count + 1)
+-- the pair stands at the next place, and every other as it was
+pub record Pushed (pairs : List ℕ) (count need low : ℕ) (pairs′ links : List ℕ) : Type 0 where
+  pub new : Pair pairs′ need low count
+  pub old : (p : ℕ) → p < count → Pair pairs′ (needAt pairs p) (lowAt pairs p) p
+  pub index : Index pairs′ links (count + 1)
 
 -- the place of a pair: where it stands already; or the next one, where it stood nowhere and stands now, or where there is no room for it
-pub data Placed (needs lows : List ℕ) (count need low : ℕ) (needs′ lows′ heads nexts : List ℕ) (r : ℕ) : Type 0 where
-  known : r < count → Pair needs lows need low r → needs′ ≡ needs → lows′ ≡ lows → Index needs′ lows′ heads nexts count
-      → Placed needs lows count need low needs′ lows′ heads nexts r
-  added : r ≡ count → Absent needs lows count need low → count < capacity → Pushed needs lows count need low needs′ lows′ heads nexts
-      → Placed needs lows count need low needs′ lows′ heads nexts r
-  full : r ≡ count → Absent needs lows count need low → count ≡ capacity → needs′ ≡ needs → lows′ ≡ lows
-      → Placed needs lows count need low needs′ lows′ heads nexts r
+pub data Placed (pairs : List ℕ) (count need low : ℕ) (pairs′ links : List ℕ) (r : ℕ) : Type 0 where
+  known : r < count → Pair pairs need low r → pairs′ ≡ pairs → Index pairs′ links count → Placed pairs count need low pairs′ links r
+  added : r ≡ count → Absent pairs count need low → count < capacity → Pushed pairs count need low pairs′ links
+      → Placed pairs count need low pairs′ links r
+  full : r ≡ count → Absent pairs count need low → count ≡ capacity → pairs′ ≡ pairs → Placed pairs count need low pairs′ links r

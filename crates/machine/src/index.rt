@@ -1,7 +1,8 @@
-// Pairs of numbers in two arrays, in the order in which they were put, found again by a hash: the places of one bucket are a chain whose
-// links fall, so a search ends where its cursor does.
+// Pairs of numbers, in the order in which they were put, found again by a hash: the places of one bucket are a chain whose links fall, so a
+// search ends where its cursor does. The pair at place p is pairs[2 p] and pairs[2 p + 1]; bucket b's chain begins at links[b] and goes on from
+// place p at links[4096 + p].
 ghost use mathlib.Core.Path.{_≡_};
-ghost use Prim.Native.Nat.{_+_, _<_};
+ghost use Prim.Native.Nat.{_+_, _*_, _<_};
 ghost use lib.ListN.{length};
 ghost use Rattle.machine.specs.Index.{bucketOf, capacity, Index, Holds, FoundAt, Pushed, Placed};
 
@@ -24,83 +25,65 @@ fn bucket(need: u64, low: u64) -> usize
 }
 
 // Whether the pair stands at a place.
-fn holds<'a>(needs: &'a [u64], lows: &'a [u64], place: usize, need: u64, low: u64) -> bool
-    requires { ⌜ (place < length (now needs)) × (place < length (now lows)) ⌝ }
-    ensures { λ r. ⌜ Holds (now (needs .entry)) (now (lows .entry)) need low place r ⌝ }
+fn holds(pairs: &[u64], place: usize, need: u64, low: u64) -> bool
+    requires { ⌜ place * 2 + 1 < length (now pairs) ⌝ }
+    ensures { λ r. ⌜ Holds (now (pairs .entry)) need low place r ⌝ }
 {
-    if needs[place] != need {
+    if pairs[place * 2] != need {
         return false;
     }
-    if lows[place] != low {
+    if pairs[place * 2 + 1] != low {
         return false;
     }
     true
 }
 
-fn find<'a>(
-    needs: &'a [u64],
-    lows: &'a [u64],
-    heads: &'a [u16],
-    nexts: &'a [u16],
-    count: usize,
-    need: u64,
-    low: u64,
-) -> Found
-    requires { ⌜ Index (now needs) (now lows) (now heads) (now nexts) count ⌝ }
-    ensures { λ r. ⌜ FoundAt (now (needs .entry)) (now (lows .entry)) count need low r ⌝ }
+fn find<'a>(pairs: &'a [u64], links: &'a [u16], count: usize, need: u64, low: u64) -> Found
+    requires { ⌜ Index (now pairs) (now links) count ⌝ }
+    ensures { λ r. ⌜ FoundAt (now (pairs .entry)) count need low r ⌝ }
 {
-    let mut cursor = wide(heads[bucket(need, low)]);
+    let mut cursor = wide(links[bucket(need, low)]);
     while cursor != 0 {
         let place = cursor - 1;
-        if holds(needs, lows, place, need, low) {
+        if holds(pairs, place, need, low) {
             return Found::At(place);
         }
-        cursor = wide(nexts[place]);
+        cursor = wide(links[4096 + place]);
     }
     Found::Nothing
 }
 
 // Puts a pair at the next place.
-fn push(
-    needs: &mut [u64],
-    lows: &mut [u64],
-    heads: &mut [u16],
-    nexts: &mut [u16],
-    count: usize,
-    need: u64,
-    low: u64,
-)
-    requires { ⌜ Index (now needs) (now lows) (now heads) (now nexts) count ⌝ }
+fn push(pairs: &mut [u64], links: &mut [u16], count: usize, need: u64, low: u64)
+    requires { ⌜ Index (now pairs) (now links) count ⌝ }
     requires { ⌜ count < capacity ⌝ }
-    ensures { λ _. ⌜ Pushed (now (needs .entry)) (now (lows .entry)) count need low (now (needs .exit)) (now (lows .exit)) (now (heads .exit)) (now (nexts .exit)) ⌝ }
+    ensures { λ _. ⌜ Pushed (now (pairs .entry)) count need low (now (pairs .exit)) (now (links .exit)) ⌝ }
 {
     let b = bucket(need, low);
     let link = (count + 1) as u16;
-    needs[count] = need;
-    lows[count] = low;
-    nexts[count] = heads[b];
-    heads[b] = link;
+    pairs[count * 2] = need;
+    pairs[count * 2 + 1] = low;
+    links[4096 + count] = links[b];
+    links[b] = link;
 }
 
 // The place of a pair, which is put at the next place where it stands nowhere yet and there is room.
 pub(crate) fn place(
-    needs: &mut [u64],
-    lows: &mut [u64],
-    heads: &mut [u16],
-    nexts: &mut [u16],
+    pairs: &mut [u64],
+    links: &mut [u16],
     count: usize,
     need: u64,
     low: u64,
 ) -> usize
-    requires { ⌜ Index (now needs) (now lows) (now heads) (now nexts) count ⌝ }
-    ensures { λ r. ⌜ Placed (now (needs .entry)) (now (lows .entry)) count need low (now (needs .exit)) (now (lows .exit)) (now (heads .exit)) (now (nexts .exit)) r ⌝ }
+    requires { ⌜ Index (now pairs) (now links) count ⌝ }
+    ensures { λ r. ⌜ Placed (now (pairs .entry)) count need low (now (pairs .exit)) (now (links .exit)) r ⌝ }
 {
-    if let Found::At(p) = find(needs, lows, heads, nexts, count, need, low) {
+    if let Found::At(p) = find(pairs, links, count, need, low) {
         return p;
     }
     if count == 4096 {
         return count;
     }
-    push(needs, lows, heads, nexts, count, need, low);
+    push(pairs, links, count, need, low);
     count
 }

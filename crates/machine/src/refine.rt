@@ -42,12 +42,12 @@ fn key_of<'a>(table: &'a [u32], classes: &'a [u8], i: usize, a: usize) -> u64
 }
 
 // No pair is linked.
-fn clear(heads: &mut [u16])
-    ensures { λ _. ⌜ now (heads .exit) ≡ replicate (length (now (heads .entry))) 0 ⌝ }
+fn clear(links: &mut [u16])
+    ensures { λ _. ⌜ now (links .exit) ≡ replicate (length (now (links .entry))) 0 ⌝ }
 {
     let mut b = 0;
-    while b < heads.len() {
-        heads[b] = 0;
+    while b < links.len() {
+        links[b] = 0;
         b += 1;
     }
 }
@@ -63,23 +63,21 @@ fn split_by<'a>(
     table: &'a [u32],
     classes: &'a [u8],
     finer: &mut [u8],
-    needs: &mut [u64],
-    lows: &mut [u64],
-    heads: &mut [u16],
-    nexts: &mut [u16],
+    pairs: &mut [u64],
+    links: &mut [u16],
     k: usize,
     a: usize,
 ) -> usize
     requires { ⌜ (k ≤ capacity) × (a < stride) × (length (now table) ≡ words) × (length (now classes) ≡ capacity) × (length (now finer) ≡ capacity) ⌝ }
-    requires { ⌜ Scratch (now needs) (now lows) (now heads) (now nexts) ⌝ }
+    requires { ⌜ Scratch (now pairs) (now links) ⌝ }
     ensures { λ r. ⌜ Named k (key (now (table .entry)) (now (classes .entry)) a) (now (finer .exit)) r ⌝ }
 {
-    clear(heads);
+    clear(links);
     let mut count = 0;
     let mut i = 0;
     while i < k {
         let named = key_of(table, classes, i, a);
-        let q = index::place(needs, lows, heads, nexts, count, named, 0);
+        let q = index::place(pairs, links, count, named, 0);
         if q == 255 {
             return 256;
         }
@@ -95,23 +93,21 @@ fn split_all<'a>(
     table: &'a [u32],
     classes: &mut [u8],
     finer: &mut [u8],
-    needs: &mut [u64],
-    lows: &mut [u64],
-    heads: &mut [u16],
-    nexts: &mut [u16],
+    pairs: &mut [u64],
+    links: &mut [u16],
     k: usize,
     letters: usize,
     began: usize,
 ) -> usize
     requires { ⌜ (length (now table) ≡ words) × (length (now finer) ≡ capacity) ⌝ }
-    requires { ⌜ Scratch (now needs) (now lows) (now heads) (now nexts) ⌝ }
+    requires { ⌜ Scratch (now pairs) (now links) ⌝ }
     requires { ⌜ Begun (tabled letters (now table)) k (now classes) began ⌝ }
     ensures { λ r. ⌜ Rounded (tabled letters (now (table .entry))) k began (now (classes .exit)) r ⌝ }
 {
     let mut count = began;
     let mut a = 0;
     while a < letters {
-        count = split_by(table, classes, finer, needs, lows, heads, nexts, k, a);
+        count = split_by(table, classes, finer, pairs, links, k, a);
         if 255 < count {
             return count;
         }
@@ -127,33 +123,20 @@ pub(crate) fn refine<'a>(
     table: &'a [u32],
     classes: &mut [u8],
     finer: &mut [u8],
-    needs: &mut [u64],
-    lows: &mut [u64],
-    heads: &mut [u16],
-    nexts: &mut [u16],
+    pairs: &mut [u64],
+    links: &mut [u16],
     k: usize,
     letters: usize,
     began: usize,
 ) -> usize
     requires { ⌜ (length (now table) ≡ words) × (length (now finer) ≡ capacity) ⌝ }
-    requires { ⌜ Scratch (now needs) (now lows) (now heads) (now nexts) ⌝ }
+    requires { ⌜ Scratch (now pairs) (now links) ⌝ }
     requires { ⌜ Begun (tabled letters (now table)) k (now classes) began ⌝ }
     ensures { λ r. ⌜ Refined (tabled letters (now (table .entry))) k (now (classes .exit)) r ⌝ }
 {
     let mut count = began;
     loop {
-        let more = split_all(
-            table,
-            classes,
-            finer,
-            needs,
-            lows,
-            heads,
-            nexts,
-            k,
-            letters,
-            count,
-        );
+        let more = split_all(table, classes, finer, pairs, links, k, letters, count);
         if 255 < more {
             return more;
         }

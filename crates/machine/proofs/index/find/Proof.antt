@@ -11,10 +11,10 @@ use Rattle.machine.proofs.index.holds.Reads as holds-reads
 use Rattle.machine.proofs.index.wide.Reads as wide-reads
 
 abbrev Inv-loop : tie.InvT-loop
-Inv-loop needs lows heads nexts count need low cursor₀ cursor = Seeking needs lows heads nexts count need low cursor
+Inv-loop pairs links count need low cursor₀ cursor = Seeking pairs links count need low cursor
 
 abbrev μ-loop : tie.MeasureT-loop
-μ-loop needs lows heads nexts count need low cursor₀ cursor = cursor
+μ-loop pairs links count need low cursor₀ cursor = cursor
 
 bucket-requires : tie.Need-bucket-requires Inv-loop μ-loop
 bucket-requires c κs = search needs
@@ -39,6 +39,9 @@ holds-requires c κs = search needs
 
 returns : tie.Need-returns Inv-loop μ-loop
 returns c = (omega arith, rw (c .if1 .taken) at (c .before .holds .ensures))
+
+add-wide : tie.Need-add-wide Inv-loop μ-loop
+add-wide c = search needs
 
 mul-wide-2 : tie.Need-mul-wide-2 Inv-loop μ-loop
 mul-wide-2 c = search needs
@@ -77,6 +80,7 @@ find-spec =
     sub-place
     holds-requires
     returns
+    add-wide
     mul-wide-2
     shared-slice-read-wide-2
     wide-requires-2

@@ -1,4 +1,6 @@
+use native.Mathlib.Omega.{arith}
 use borrow.Author.Needs.{needs}
+use lib.ListN.{length-set}
 use Rattle.machine.proofs.Links.{pushed}
 use Rattle.machine.proofs.index.push.Statement.{statement}
 use Rattle.machine.proofs.index.push.Tie as tie
@@ -15,47 +17,53 @@ add-link c = search needs
 cast-link : tie.Need-cast-link
 cast-link c = search needs
 
-mul-needs : tie.Need-mul-needs
-mul-needs c = search needs
+mul-pairs : tie.Need-mul-pairs
+mul-pairs c = search needs
 
-slice-write-needs : tie.Need-slice-write-needs
-slice-write-needs c = search needs
+mul-pairs-2 : tie.Need-mul-pairs-2
+mul-pairs-2 c = search needs
 
-mul-lows : tie.Need-mul-lows
-mul-lows c = search needs
+slice-write-pairs : tie.Need-slice-write-pairs
+slice-write-pairs c = search needs
 
-slice-write-lows : tie.Need-slice-write-lows
-slice-write-lows c = search needs
+mul-pairs-3 : tie.Need-mul-pairs-3
+mul-pairs-3 c = search needs
 
-mul-nexts : tie.Need-mul-nexts
-mul-nexts c = search needs
+add-pairs : tie.Need-add-pairs
+add-pairs c = search needs
 
-slice-read-nexts : tie.Need-slice-read-nexts
-slice-read-nexts c = search needs
+mul-pairs-4 : tie.Need-mul-pairs-4
+mul-pairs-4 c = search needs
 
-mul-nexts-2 : tie.Need-mul-nexts-2
-mul-nexts-2 c = search needs
+slice-write-pairs-2 : tie.Need-slice-write-pairs-2
+slice-write-pairs-2 c = simp length-set (omega arith)
 
-slice-write-nexts : tie.Need-slice-write-nexts
-slice-write-nexts c = search needs
+mul-links : tie.Need-mul-links
+mul-links c = search needs
 
-mul-heads : tie.Need-mul-heads
-mul-heads c = search needs
+slice-read-links : tie.Need-slice-read-links
+slice-read-links c = search needs
 
-slice-write-heads : tie.Need-slice-write-heads
-slice-write-heads c = search needs
+add-links : tie.Need-add-links
+add-links c = search needs
+
+mul-links-2 : tie.Need-mul-links-2
+mul-links-2 c = search needs
+
+slice-write-links : tie.Need-slice-write-links
+slice-write-links c = search needs
+
+mul-links-3 : tie.Need-mul-links-3
+mul-links-3 c = search needs
+
+slice-write-links-2 : tie.Need-slice-write-links-2
+slice-write-links-2 c = simp length-set (omega arith)
 
 same-length : tie.Need-same-length
 same-length c = search needs
 
 same-length-2 : tie.Need-same-length-2
 same-length-2 c = search needs
-
-same-length-3 : tie.Need-same-length-3
-same-length-3 c = search needs
-
-same-length-4 : tie.Need-same-length-4
-same-length-4 c = search needs
 
 returns : tie.Need-returns
 returns c = search (pushed, needs)
@@ -67,18 +75,20 @@ push-spec =
     bucket-requires
     add-link
     cast-link
-    mul-needs
-    slice-write-needs
-    mul-lows
-    slice-write-lows
-    mul-nexts
-    slice-read-nexts
-    mul-nexts-2
-    slice-write-nexts
-    mul-heads
-    slice-write-heads
+    mul-pairs
+    mul-pairs-2
+    slice-write-pairs
+    mul-pairs-3
+    add-pairs
+    mul-pairs-4
+    slice-write-pairs-2
+    mul-links
+    slice-read-links
+    add-links
+    mul-links-2
+    slice-write-links
+    mul-links-3
+    slice-write-links-2
     same-length
     same-length-2
-    same-length-3
-    same-length-4
     returns)

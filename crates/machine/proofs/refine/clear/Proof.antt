@@ -11,19 +11,19 @@ use Rattle.machine.proofs.refine.clear.Reads as reads
 use Rattle.machine.proofs.refine.clear.Lts as lts
 
 abbrev Inv-loop : tie.InvT-loop
-Inv-loop heads₀ b₀ heads b = (b ≤ length heads₀) × (length heads ≡ length heads₀) × (heads ≡ replicate b 0 ++ drop b heads₀)
+Inv-loop links₀ b₀ links b = (b ≤ length links₀) × (length links ≡ length links₀) × (links ≡ replicate b 0 ++ drop b links₀)
 
 abbrev μ-loop : tie.MeasureT-loop
-μ-loop heads₀ b₀ heads b = length heads₀ - b
+μ-loop links₀ b₀ links b = length links₀ - b
 
 loop-holds : tie.Need-loop-holds Inv-loop μ-loop
 loop-holds c = search needs
 
-mul-heads : tie.Need-mul-heads Inv-loop μ-loop
-mul-heads c = search needs
+mul-links : tie.Need-mul-links Inv-loop μ-loop
+mul-links c = search needs
 
-slice-write-heads : tie.Need-slice-write-heads Inv-loop μ-loop
-slice-write-heads c = search needs
+slice-write-links : tie.Need-slice-write-links Inv-loop μ-loop
+slice-write-links c = search needs
 
 add-b : tie.Need-add-b Inv-loop μ-loop
 add-b c = search needs
@@ -51,8 +51,8 @@ clear-spec =
     Inv-loop
     μ-loop
     loop-holds
-    mul-heads
-    slice-write-heads
+    mul-links
+    slice-write-links
     add-b
     loop-less
     loop-again

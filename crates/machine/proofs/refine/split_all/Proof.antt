@@ -9,11 +9,11 @@ use Rattle.bytes.proofs.copy.Reads as copy-reads
 use Rattle.machine.proofs.refine.split_by.Reads as split-by-reads
 
 abbrev Inv-loop : tie.InvT-loop
-Inv-loop table classes₀ finer₀ needs₀ lows₀ heads₀ nexts₀ k letters began count₀ a₀ classes finer needs lows heads nexts count a =
-    Going letters table k began classes finer needs lows heads nexts count a
+Inv-loop table classes₀ finer₀ pairs₀ links₀ k letters began count₀ a₀ classes finer pairs links count a =
+    Going letters table k began classes finer pairs links count a
 
 abbrev μ-loop : tie.MeasureT-loop
-μ-loop table classes₀ finer₀ needs₀ lows₀ heads₀ nexts₀ k letters began count₀ a₀ classes finer needs lows heads nexts count a =
+μ-loop table classes₀ finer₀ pairs₀ links₀ k letters began count₀ a₀ classes finer pairs links count a =
     letters - a
 
 loop-holds : tie.Need-loop-holds Inv-loop μ-loop
@@ -34,12 +34,6 @@ same-length-3 c = search needs
 same-length-4 : tie.Need-same-length-4 Inv-loop μ-loop
 same-length-4 c = search needs
 
-same-length-5 : tie.Need-same-length-5 Inv-loop μ-loop
-same-length-5 c = search needs
-
-same-length-6 : tie.Need-same-length-6 Inv-loop μ-loop
-same-length-6 c = search needs
-
 returns : tie.Need-returns Inv-loop μ-loop
 returns c = search (going-crowd, needs)
 
@@ -55,23 +49,17 @@ loop-less c = search needs
 loop-again : tie.Need-loop-again Inv-loop μ-loop
 loop-again c = search (going-next, scratch-kept, needs)
 
+same-length-5 : tie.Need-same-length-5 Inv-loop μ-loop
+same-length-5 c = search needs
+
+same-length-6 : tie.Need-same-length-6 Inv-loop μ-loop
+same-length-6 c = search needs
+
 same-length-7 : tie.Need-same-length-7 Inv-loop μ-loop
 same-length-7 c = search needs
 
 same-length-8 : tie.Need-same-length-8 Inv-loop μ-loop
 same-length-8 c = search needs
-
-same-length-9 : tie.Need-same-length-9 Inv-loop μ-loop
-same-length-9 c = search needs
-
-same-length-10 : tie.Need-same-length-10 Inv-loop μ-loop
-same-length-10 c = search needs
-
-same-length-11 : tie.Need-same-length-11 Inv-loop μ-loop
-same-length-11 c = search needs
-
-same-length-12 : tie.Need-same-length-12 Inv-loop μ-loop
-same-length-12 c = search needs
 
 returns-2 : tie.Need-returns-2 Inv-loop μ-loop
 returns-2 c = search (going-end, needs)
@@ -88,17 +76,13 @@ split-all-spec =
     same-length-2
     same-length-3
     same-length-4
-    same-length-5
-    same-length-6
     returns
     copy-requires
     add-a
     loop-less
     loop-again
+    same-length-5
+    same-length-6
     same-length-7
     same-length-8
-    same-length-9
-    same-length-10
-    same-length-11
-    same-length-12
     returns-2)

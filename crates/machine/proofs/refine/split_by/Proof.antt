@@ -13,11 +13,11 @@ use Rattle.machine.proofs.refine.key_of.Reads as key-of-reads
 use Rattle.machine.proofs.refine.larger.Reads as larger-reads
 
 abbrev Inv-loop : tie.InvT-loop
-Inv-loop table classes finer₀ needs₀ lows₀ heads₀ nexts₀ k a count₀ i₀ finer needs lows heads nexts count i =
-    Splitting (key table classes a) k finer needs lows heads nexts count i
+Inv-loop table classes finer₀ pairs₀ links₀ k a count₀ i₀ finer pairs links count i =
+    Splitting (key table classes a) k finer pairs links count i
 
 abbrev μ-loop : tie.MeasureT-loop
-μ-loop table classes finer₀ needs₀ lows₀ heads₀ nexts₀ k a count₀ i₀ finer needs lows heads nexts count i =
+μ-loop table classes finer₀ pairs₀ links₀ k a count₀ i₀ finer pairs links count i =
     k - i
 
 clear-requires : tie.Need-clear-requires Inv-loop μ-loop
@@ -41,23 +41,17 @@ same-length-2 c = search needs
 same-length-3 : tie.Need-same-length-3 Inv-loop μ-loop
 same-length-3 c = search needs
 
-same-length-4 : tie.Need-same-length-4 Inv-loop μ-loop
-same-length-4 c = search needs
-
-same-length-5 : tie.Need-same-length-5 Inv-loop μ-loop
-same-length-5 c = search needs
-
 returns : tie.Need-returns Inv-loop μ-loop
 returns c = search (splitting-crowded, needs)
 
 cast-finer : tie.Need-cast-finer Inv-loop μ-loop
-cast-finer c = omega (arith, placed-low (c .before .before .before .before .before .before .before .before .before .place .ensures))
+cast-finer c = omega (arith, placed-low (c .before .before .before .before .before .place .ensures))
 
 slice-write-finer : tie.Need-slice-write-finer Inv-loop μ-loop
 slice-write-finer c = search needs
 
 add-larger : tie.Need-add-larger Inv-loop μ-loop
-add-larger c = omega (arith, placed-low (c .before .before .before .before .before .before .before .before .before .place .ensures))
+add-larger c = omega (arith, placed-low (c .before .before .before .before .before .place .ensures))
 
 larger-requires : tie.Need-larger-requires Inv-loop μ-loop
 larger-requires c κs = search needs
@@ -71,20 +65,14 @@ loop-less c = search needs
 loop-again : tie.Need-loop-again Inv-loop μ-loop
 loop-again c = search (splitting-next, needs)
 
+same-length-4 : tie.Need-same-length-4 Inv-loop μ-loop
+same-length-4 c = search needs
+
+same-length-5 : tie.Need-same-length-5 Inv-loop μ-loop
+same-length-5 c = search needs
+
 same-length-6 : tie.Need-same-length-6 Inv-loop μ-loop
 same-length-6 c = search needs
-
-same-length-7 : tie.Need-same-length-7 Inv-loop μ-loop
-same-length-7 c = search needs
-
-same-length-8 : tie.Need-same-length-8 Inv-loop μ-loop
-same-length-8 c = search needs
-
-same-length-9 : tie.Need-same-length-9 Inv-loop μ-loop
-same-length-9 c = search needs
-
-same-length-10 : tie.Need-same-length-10 Inv-loop μ-loop
-same-length-10 c = search needs
 
 returns-2 : tie.Need-returns-2 Inv-loop μ-loop
 returns-2 c = search (splitting-end, needs)
@@ -102,8 +90,6 @@ split-by-spec =
     same-length
     same-length-2
     same-length-3
-    same-length-4
-    same-length-5
     returns
     cast-finer
     slice-write-finer
@@ -112,9 +98,7 @@ split-by-spec =
     add-i
     loop-less
     loop-again
+    same-length-4
+    same-length-5
     same-length-6
-    same-length-7
-    same-length-8
-    same-length-9
-    same-length-10
     returns-2)
