@@ -1,0 +1,260 @@
+-- Which fence a way takes, and when it takes none. Assumes nothing.
+use Prim.Native.Nat.{ℕ, zero, suc, _+_, _-_, _≤_, _<_}
+use mathlib.Core.Path.{_≡_, refl, sym, ap, _∙_}
+use mathlib.Core.Bool.{Bool, true, false}
+use mathlib.Core.List.{List, _++_}
+use native.Mathlib.Decide.{decLt}
+use native.Mathlib.Omega.{arith}
+use lib.ListN.{length}
+use Rattle.tables.specs.declared.table.Table.{Table}
+use Rattle.tables.specs.Table.{choose, atLeast}
+use Rattle.rule.specs.declared.operation.Kind.{Kind}
+use Rattle.rule.specs.declared.way.Way.{Way}
+use Rattle.rule.specs.declared.way.Choice.{Choice}
+use Rattle.rule.specs.Stream.{Stream, fence}
+use Rattle.rule.specs.Pairs.{Model, tableAt, settled}
+use Rattle.rule.specs.Rule.{lowest, last, pick, rule, Ran, done, refused}
+use Rattle.rule.specs.Situation.{none, choiceOf}
+use Rattle.rule.proofs.Folds.{not-both}
+
+-- how a run goes on after a choice
+abbrev pub goes-on : Ran → (ℕ → Ran) → Choice → Ran
+goes-on plain fenced c = elim c as (λ x. Ran) [ Choice.Nothing ↦ plain | Choice.Fence g ↦ fenced g | Choice.Refused ↦ refused 0 ]
+
+-- "the lowest-numbered target fence that leaves none of these pairs short", "the highest-numbered fence, if that leaves none short"
+abbrev pub Takes : Way → (ℕ → Bool) → ℕ → ℕ → Type 0
+Takes Way.Sparing f n g = (g < n) × (f g ≡ true) × ((h : ℕ) → h < g → f h ≡ false)
+Takes Way.Full f n g = (suc g ≡ n) × (f g ≡ true)
+
+-- no fence will do for the way
+abbrev pub NoneWillDo : Way → (ℕ → Bool) → ℕ → Type 0
+NoneWillDo Way.Sparing f n = (g : ℕ) → g < n → f g ≡ false
+NoneWillDo Way.Full f n = (g : ℕ) → suc g ≡ n → f g ≡ false
+
+pub differ : {A : Type 0} → _≡_ {A = ℕ} 0 1 → A
+differ e = absurd (omega arith)
+
+-- which of these fences will do for what is pending, and what a test of one says of it
+abbrev pub serves : List ℕ → Table → ℕ → Bool
+serves fences pending g = atLeast (tableAt fences g) pending
+
+pub told : (pending : Table) {t u : Table} {b d : Bool} → t ≡ u → b ≡ atLeast t pending → b ≡ d → atLeast u pending ≡ d
+told pending e f g = sym (f ∙ ap (λ (x : Table). atLeast x pending) e) ∙ g
+
+module _ (way : Way) (fences : List ℕ) (pending : Table) where
+  pub choice-nothing : atLeast none pending ≡ true → choiceOf way fences pending ≡ Choice.Nothing
+  unfolding choiceOf
+  choice-nothing e = ap (λ (b : Bool). choose b Choice.Nothing (pick way (serves fences pending) (length fences))) e
+
+  pub choice-pick : atLeast none pending ≡ false → choiceOf way fences pending ≡ pick way (serves fences pending) (length fences)
+  unfolding choiceOf
+  choice-pick e = ap (λ (b : Bool). choose b Choice.Nothing (pick way (serves fences pending) (length fences))) e
+
+module _ (f : ℕ → Bool) where
+  -- the search for the lowest, one fence at a time
+  pub lowest-found : (i n : ℕ) → i < n → f i ≡ true → lowest f i (n - i) ≡ Choice.Fence i
+  lowest-found i n l p =
+      let e : n - i ≡ suc (n - (i + 1)) = omega arith in
+      ap (lowest f i) e ∙ ap (λ (b : Bool). choose b (Choice.Fence i) (lowest f (suc i) (n - (i + 1)))) p
+
+  pub lowest-next : (i n : ℕ) → i < n → f i ≡ false → lowest f i (n - i) ≡ lowest f (i + 1) (n - (i + 1))
+  lowest-next i n l p =
+      let e : n - i ≡ suc (n - (i + 1)) = omega arith in
+      let m : suc i ≡ i + 1 = omega arith in
+      ap (lowest f i) e ∙ ap (λ (b : Bool). choose b (Choice.Fence i) (lowest f (suc i) (n - (i + 1)))) p
+      ∙ ap (λ (j : ℕ). lowest f j (n - (i + 1))) m
+
+  pub lowest-all : (n : ℕ) → lowest f 0 n ≡ lowest f 0 (n - 0)
+  lowest-all n =
+      let e : n ≡ n - 0 = omega arith in
+      ap (lowest f 0) e
+
+  pub lowest-over : (i n : ℕ) → n ≤ i → lowest f i (n - i) ≡ Choice.Refused
+  lowest-over i n l =
+      let e : n - i ≡ 0 = omega arith in
+      ap (lowest f i) e
+
+  -- the last of some fences
+  pub last-of : (n : ℕ) → 0 < n → (b : Bool) → f (n - 1) ≡ b → last f n ≡ choose b (Choice.Fence (n - 1)) Choice.Refused
+  last-of n l b p =
+      let e : n ≡ suc (n - 1) = omega arith in
+      ap (last f) e ∙ ap (λ (b : Bool). choose b (Choice.Fence (n - 1)) Choice.Refused) p
+
+  -- what the search for the lowest finds from i on
+  lowest-takes : (i n g : ℕ) → lowest f i n ≡ Choice.Fence g → (i ≤ g) × (g < i + n) × (f g ≡ true) × ((h : ℕ) → i ≤ h → h < g → f h ≡ false)
+  lowest-takes i zero g e = differ (cc)
+  lowest-takes i (suc n) g e = at (f i) refl (lowest-takes (suc i) n g)
+    where
+      at : (b : Bool) → f i ≡ b
+          → (lowest f (suc i) n ≡ Choice.Fence g → (suc i ≤ g) × (g < suc i + n) × (f g ≡ true) × ((h : ℕ) → suc i ≤ h → h < g → f h ≡ false))
+          → (i ≤ g) × (g < i + suc n) × (f g ≡ true) × ((h : ℕ) → i ≤ h → h < g → f h ≡ false)
+      at true p rest =
+          let q : Choice.Fence i ≡ Choice.Fence g = sym (ap (λ (b : Bool). choose b (Choice.Fence i) (lowest f (suc i) n)) p) ∙ e in
+          let m : i ≡ g = cc in
+          (omega arith, omega arith, sym (ap f m) ∙ p, λ h l u. absurd (omega arith))
+      at false p rest =
+          let w = rest (sym (ap (λ (b : Bool). choose b (Choice.Fence i) (lowest f (suc i) n)) p) ∙ e) in
+          (omega (arith, w .0), omega (arith, w .1), w .2, λ h l u. above h l u (decLt i h) (w .3))
+        where
+          above : (h : ℕ) → i ≤ h → h < g → Dec (i < h) → ((h : ℕ) → suc i ≤ h → h < g → f h ≡ false) → f h ≡ false
+          above h l u (yes m) rest = rest h m u
+          above h l u (no m) rest =
+              let e : h ≡ i = omega arith in
+              ap f e ∙ p
+
+  lowest-refused : (i n : ℕ) → lowest f i n ≡ Choice.Refused → (h : ℕ) → i ≤ h → h < i + n → f h ≡ false
+  lowest-refused i zero e h l u = absurd (omega arith)
+  lowest-refused i (suc n) e h l u = at (f i) refl (lowest-refused (suc i) n) (decLt i h)
+    where
+      at : (b : Bool) → f i ≡ b → (lowest f (suc i) n ≡ Choice.Refused → (h : ℕ) → suc i ≤ h → h < suc i + n → f h ≡ false)
+          → Dec (i < h) → f h ≡ false
+      at true p rest d =
+          let q : Choice.Fence i ≡ Choice.Refused = sym (ap (λ (b : Bool). choose b (Choice.Fence i) (lowest f (suc i) n)) p) ∙ e in
+          differ (cc)
+      at false p rest (yes m) = rest (sym (ap (λ (b : Bool). choose b (Choice.Fence i) (lowest f (suc i) n)) p) ∙ e) h m (omega arith)
+      at false p rest (no m) =
+          let e : h ≡ i = omega arith in
+          ap f e ∙ p
+
+  lowest-some : (i n : ℕ) → lowest f i n ≡ Choice.Nothing → ⊥
+  lowest-some i zero e = differ (cc)
+  lowest-some i (suc n) e = at (f i) refl (lowest-some (suc i) n)
+    where
+      at : (b : Bool) → f i ≡ b → (lowest f (suc i) n ≡ Choice.Nothing → ⊥) → ⊥
+      at true p rest =
+          let q : Choice.Fence i ≡ Choice.Nothing = sym (ap (λ (b : Bool). choose b (Choice.Fence i) (lowest f (suc i) n)) p) ∙ e in
+          differ (cc)
+      at false p rest = rest (sym (ap (λ (b : Bool). choose b (Choice.Fence i) (lowest f (suc i) n)) p) ∙ e)
+
+  -- what the last is, if it passes
+  last-is : (n : ℕ) (b : Bool) → f n ≡ b → (c : Choice) → choose (f n) (Choice.Fence n) Choice.Refused ≡ c → choose b (Choice.Fence n) Choice.Refused ≡ c
+  last-is n b p c e = sym (ap (λ (b : Bool). choose b (Choice.Fence n) Choice.Refused) p) ∙ e
+
+  -- a pick takes what it says, or says that none will do
+
+  pub pick-takes : (way : Way) (n g : ℕ) → pick way f n ≡ Choice.Fence g → Takes way f n g
+  pick-takes Way.Sparing n g e =
+      let w = lowest-takes 0 n g e in
+      (omega (arith, w .1), w .2, λ h l. w .3 h (omega arith) l)
+  pick-takes Way.Full zero g e = differ (cc)
+  pick-takes Way.Full (suc n) g e = at (f n) refl
+    where
+      at : (b : Bool) → f n ≡ b → (suc g ≡ suc n) × (f g ≡ true)
+      at true p =
+          let q : Choice.Fence n ≡ Choice.Fence g = last-is n true p (Choice.Fence g) e in
+          let m : n ≡ g = cc in
+          (omega arith, sym (ap f m) ∙ p)
+      at false p =
+          let q : Choice.Refused ≡ Choice.Fence g = last-is n false p (Choice.Fence g) e in
+          differ (cc)
+
+  pub pick-refused : (way : Way) (n : ℕ) → pick way f n ≡ Choice.Refused → NoneWillDo way f n
+  pick-refused Way.Sparing n e = λ g l. lowest-refused 0 n e g (omega arith) (omega arith)
+  pick-refused Way.Full zero e = λ g m. absurd (omega arith)
+  pick-refused Way.Full (suc n) e = at (f n) refl
+    where
+      at : (b : Bool) → f n ≡ b → (g : ℕ) → suc g ≡ suc n → f g ≡ false
+      at true p g m =
+          let q : Choice.Fence n ≡ Choice.Refused = last-is n true p Choice.Refused e in
+          differ (cc)
+      at false p g m =
+          let h : g ≡ n = omega arith in
+          ap f h ∙ p
+
+  pub pick-some : (way : Way) (n : ℕ) → pick way f n ≡ Choice.Nothing → ⊥
+  pick-some Way.Sparing n e = lowest-some 0 n e
+  pick-some Way.Full zero e = differ (cc)
+  pick-some Way.Full (suc n) e = at (f n) refl
+    where
+      at : (b : Bool) → f n ≡ b → ⊥
+      at true p =
+          let q : Choice.Fence n ≡ Choice.Nothing = last-is n true p Choice.Nothing e in
+          differ (cc)
+      at false p =
+          let q : Choice.Refused ≡ Choice.Nothing = last-is n false p Choice.Nothing e in
+          differ (cc)
+
+  -- a way takes no two different fences, and takes none where none will do
+  takes-one : (way : Way) (n g h : ℕ) → Takes way f n g → Takes way f n h → g ≡ h
+  takes-one Way.Sparing n g h p q = at (decLt g h) (decLt h g)
+    where
+      at : Dec (g < h) → Dec (h < g) → g ≡ h
+      at (yes l) d = absurd (not-both (p .1) (q .2 g l))
+      at (no l) (yes u) = absurd (not-both (q .1) (p .2 h u))
+      at (no l) (no u) = omega arith
+  takes-one Way.Full n g h p q = omega (arith, p .0, q .0)
+
+  takes-not-none : (way : Way) (n g : ℕ) → Takes way f n g → NoneWillDo way f n → ⊥
+  takes-not-none Way.Sparing n g p none = not-both (p .1) (none g (p .0))
+  takes-not-none Way.Full n g p none = not-both (p .1) (none g (p .0))
+
+  pub takes-pick : (way : Way) (n g : ℕ) → Takes way f n g → pick way f n ≡ Choice.Fence g
+  takes-pick way n g h = at (pick way f n) refl
+    where
+      at : (c : Choice) → pick way f n ≡ c → pick way f n ≡ Choice.Fence g
+      at Choice.Nothing e = absurd (pick-some way n e)
+      at (Choice.Fence i) e = e ∙ ap Choice.Fence (takes-one way n i g (pick-takes way n i e) h)
+      at Choice.Refused e = absurd (takes-not-none way n g h (pick-refused way n e))
+
+  pub none-pick : (way : Way) (n : ℕ) → NoneWillDo way f n → pick way f n ≡ Choice.Refused
+  none-pick way n h = at (pick way f n) refl
+    where
+      at : (c : Choice) → pick way f n ≡ c → pick way f n ≡ Choice.Refused
+      at Choice.Nothing e = absurd (pick-some way n e)
+      at (Choice.Fence i) e = absurd (takes-not-none way n i (pick-takes way n i e) h)
+      at Choice.Refused e = e
+
+-- what the rule puts, by its three answers
+module _ (way : Way) (up target : Model) (input output : Stream) (k : Kind) where
+  -- which fences will do
+  abbrev pub will-do : ℕ → Bool
+  will-do g = settled up target input (output ++ fence g) k
+
+  asked-rule : (b : Bool) → settled up target input output k ≡ b
+      → rule way up target input output k ≡ choose b Choice.Nothing (pick way will-do (length (target .fences)))
+  unfolding rule
+  asked-rule b e = ap (λ (b : Bool). choose b Choice.Nothing (pick way will-do (length (target .fences)))) e
+
+  pub settled-rule : settled up target input output k ≡ true → rule way up target input output k ≡ Choice.Nothing
+  settled-rule e = asked-rule true e
+
+  pub short-rule : settled up target input output k ≡ false → rule way up target input output k ≡ pick way will-do (length (target .fences))
+  short-rule e = asked-rule false e
+
+  pub rule-nothing : rule way up target input output k ≡ Choice.Nothing → settled up target input output k ≡ true
+  rule-nothing e = at (settled up target input output k) refl
+    where
+      at : (b : Bool) → settled up target input output k ≡ b → settled up target input output k ≡ true
+      at true p = p
+      at false p = absurd (pick-some will-do way (length (target .fences)) (sym (short-rule p) ∙ e))
+
+  -- any other answer is given only where a pair would be short, and is the way's pick
+  pub rule-short : (c : Choice) → rule way up target input output k ≡ c → (Choice.Nothing ≡ c → ⊥)
+      → (settled up target input output k ≡ false) × (pick way will-do (length (target .fences)) ≡ c)
+  rule-short c e some = at (settled up target input output k) refl
+    where
+      at : (b : Bool) → settled up target input output k ≡ b
+          → (settled up target input output k ≡ false) × (pick way will-do (length (target .fences)) ≡ c)
+      at true p = absurd (some (sym (settled-rule p) ∙ e))
+      at false p = (p, sym (short-rule p) ∙ e)
+
+  -- a fence that the rule puts is the way's, and will do
+  pub rule-fence : (g : ℕ) → rule way up target input output k ≡ Choice.Fence g
+      → (settled up target input output k ≡ false) × Takes way will-do (length (target .fences)) g
+  rule-fence g e =
+      let w = rule-short (Choice.Fence g) e (λ z. differ (cc)) in
+      (w .0, pick-takes will-do way (length (target .fences)) g (w .1))
+
+  pub fence-will-do : (g : ℕ) → rule way up target input output k ≡ Choice.Fence g → will-do g ≡ true
+  fence-will-do g e = at way (rule-fence g e .1)
+    where
+      at : (w : Way) → Takes w will-do (length (target .fences)) g → will-do g ≡ true
+      at Way.Sparing h = h .1
+      at Way.Full h = h .1
+
+  -- the rule refuses where a pair would be short and no fence will do for the way
+  pub rule-refused : rule way up target input output k ≡ Choice.Refused
+      → (settled up target input output k ≡ false) × NoneWillDo way will-do (length (target .fences))
+  rule-refused e =
+      let w = rule-short Choice.Refused e (λ z. differ (cc)) in
+      (w .0, pick-refused will-do way (length (target .fences)) (w .1))

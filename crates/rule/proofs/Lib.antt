@@ -1,0 +1,12 @@
+pub mod Bytes
+pub mod Choices
+pub mod Continued
+pub mod EveryPair
+pub mod Fewest
+pub mod Folds
+pub mod Kept
+pub mod Reach
+pub mod Situations
+pub mod Stands
+pub mod Streams
+pub mod Theorems

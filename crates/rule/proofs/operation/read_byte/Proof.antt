@@ -1,0 +1,81 @@
+-- `read_byte` meets its contract: one law for each letter and each range. Assumes nothing.
+use borrow.Author.Needs.{needs}
+use mathlib.Core.Path.{_≡_, sym, ap, _∙_}
+use Prim.Native.Nat.{ℕ}
+use native.Mathlib.Omega.{arith}
+use Rattle.rule.specs.declared.operation.Kind.{Kind}
+use Rattle.rule.specs.Operation.{byteIs}
+use Rattle.rule.proofs.Bytes.{NoLetter, access-read, digit-byte, letter-byte, no-byte}
+use Rattle.rule.proofs.operation.read_byte.Statement.{statement}
+use Rattle.rule.proofs.operation.read_byte.Tie as tie
+use Rattle.rule.proofs.operation.read_byte.Reads as reads
+use Rattle.rule.proofs.operation.read_byte.Lts as lts
+
+-- none of the letters, as the match tells it
+none : {b : ℕ} → (((Unit {0} × (b ≡ 108 → ⊥)) × (b ≡ 76 → ⊥)) × (b ≡ 115 → ⊥)) × (b ≡ 83 → ⊥) → NoLetter b
+none h = (h .0 .0 .0 .1, h .0 .0 .1, h .0 .1, h .1)
+
+-- src/operation.rt:33:50
+cast-t13 : tie.Need-cast-t13
+cast-t13 c = search needs
+
+-- src/operation.rt:34:50
+cast-t16 : tie.Need-cast-t16
+cast-t16 c = search needs
+
+-- src/operation.rt:34:50
+add-t17 : tie.Need-add-t17
+add-t17 c = search needs
+
+-- src/operation.rt:25:1
+returns : tie.Need-returns
+returns c = sym (ap byteIs (c .match .keys1) ∙ access-read Kind.Ld)
+
+-- src/operation.rt:25:1
+returns-2 : tie.Need-returns-2
+returns-2 c = sym (ap byteIs (c .match .keys2) ∙ access-read Kind.Cld)
+
+-- src/operation.rt:25:1
+returns-3 : tie.Need-returns-3
+returns-3 c = sym (ap byteIs (c .match .keys3) ∙ access-read Kind.St)
+
+-- src/operation.rt:25:1
+returns-4 : tie.Need-returns-4
+returns-4 c = sym (ap byteIs (c .match .keys4) ∙ access-read Kind.Cst)
+
+-- src/operation.rt:25:1
+returns-5 : tie.Need-returns-5
+returns-5 c = sym (digit-byte _ (omega arith) (omega arith))
+
+-- src/operation.rt:25:1
+returns-6 : tie.Need-returns-6
+returns-6 c = sym (letter-byte _ (omega arith) (omega arith))
+
+-- src/operation.rt:25:1
+returns-7 : tie.Need-returns-7
+returns-7 c = sym (no-byte _ (none (c .before .match .rest)) (λ l u. omega arith) (λ l u. omega arith))
+
+-- src/operation.rt:25:1
+returns-8 : tie.Need-returns-8
+returns-8 c = sym (no-byte _ (none (c .before .before .before .match .rest)) (λ l u. omega arith) (λ l u. omega arith))
+
+-- src/operation.rt:25:1
+returns-9 : tie.Need-returns-9
+returns-9 c = sym (no-byte _ (none (c .before .before .before .before .match .rest)) (λ l u. omega arith) (λ l u. omega arith))
+
+pub read-byte-spec : {M : Type 1} → statement M
+read-byte-spec =
+    tie.close
+    (tie.spec
+    cast-t13
+    cast-t16
+    add-t17
+    returns
+    returns-2
+    returns-3
+    returns-4
+    returns-5
+    returns-6
+    returns-7
+    returns-8
+    returns-9)

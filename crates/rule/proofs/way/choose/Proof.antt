@@ -1,0 +1,61 @@
+-- `choose` meets its contract. Assumes nothing.
+use mathlib.Core.Path.{sym, ap, _∙_}
+use denote.Ref.{now}
+use lib.ListN.{length}
+use Rattle.rule.specs.declared.way.Way.{Way}
+use Rattle.rule.specs.Rule.{pick}
+use Rattle.rule.proofs.Choices.{serves, choice-nothing, choice-pick}
+use borrow.Author.Needs.{needs}
+use Rattle.rule.proofs.way.choose.Statement.{statement}
+use Rattle.rule.proofs.way.choose.Tie as tie
+
+at-least-requires : tie.Need-at-least-requires
+at-least-requires c κs = search needs
+
+returns : tie.Need-returns
+returns c =
+    let a = c .before .before .before .args in
+    sym (choice-nothing (a .way) (now (a .fences)) (a .pending) (sym (c .before .at-least .ensures) ∙ c .if1 .taken))
+
+enum-told : tie.Need-enum-told
+enum-told c = search needs
+
+lowest-fence-requires : tie.Need-lowest-fence-requires
+lowest-fence-requires c κs = search needs
+
+enum-told-2 : tie.Need-enum-told-2
+enum-told-2 c = search needs
+
+last-fence-requires : tie.Need-last-fence-requires
+last-fence-requires c κs = search needs
+
+returns-2 : tie.Need-returns-2
+returns-2 c =
+    let a = c .before .before .before .before .before .before .args in
+    c .lowest-fence .ensures
+    ∙ ap (λ (w : Way). pick w (serves (now (a .fences)) (a .pending)) (length (now (a .fences)))) (sym (c .before .enum-told .given .1))
+    ∙ sym
+    (choice-pick (a .way) (now (a .fences)) (a .pending)
+    (sym (c .before .before .before .before .at-least .ensures) ∙ c .before .before .before .if1 .left))
+
+returns-3 : tie.Need-returns-3
+returns-3 c =
+    let a = c .before .before .before .before .before .before .args in
+    c .last-fence .ensures
+    ∙ ap (λ (w : Way). pick w (serves (now (a .fences)) (a .pending)) (length (now (a .fences)))) (sym (c .before .enum-told2 .given .1))
+    ∙ sym
+    (choice-pick (a .way) (now (a .fences)) (a .pending)
+    (sym (c .before .before .before .before .at-least .ensures) ∙ c .before .before .before .if1 .left))
+
+pub choose-spec : {M : Type 1} → statement M
+choose-spec =
+    tie.close
+    (tie.spec
+    at-least-requires
+    returns
+    enum-told
+    lowest-fence-requires
+    enum-told-2
+    last-fence-requires
+    returns-2
+    returns-3)

@@ -1,0 +1,5 @@
+pub mod Operation
+pub mod Stream
+pub mod Pairs
+pub mod Rule
+pub mod Situation

@@ -1,0 +1,105 @@
+// The two ways of choosing a fence, and the step that an access takes.
+ghost use mathlib.Core.Path.{_≡_};
+ghost use Prim.Native.Nat.{ℕ};
+ghost use lib.ListN.{length};
+ghost use Rattle.tables.specs.Table.{atLeast};
+ghost use Rattle.rule.specs.Pairs.{tableAt};
+ghost use Rattle.rule.specs.Rule.{lowest, last};
+ghost use Rattle.rule.specs.Situation.{choiceOf, stepped};
+use crate::operation::Kind;
+use crate::situation::Situation;
+use tables::table::Table;
+
+pub enum Way {
+    Sparing,
+    Full,
+}
+
+// What a way puts before an access.
+pub enum Choice {
+    Nothing,
+    Fence(usize),
+    Refused,
+}
+
+// An access taken, with nothing or with a fence before it, and the situation after it; or refused.
+pub enum Step {
+    Plain(Situation),
+    Fenced(usize, Situation),
+    Refused,
+}
+
+// The table of a fence; one that is not there orders nothing.
+pub fn fence_table(fences: &[u64], number: usize) -> Table
+    ensures { λ r. ⌜ r ≡ tableAt (now (fences .entry)) number ⌝ }
+{
+    if number < fences.len() {
+        Table {
+            packed: fences[number],
+        }
+    } else {
+        Table::NONE
+    }
+}
+
+// What the way puts before an access that needs `pending`.
+pub fn choose(way: Way, fences: &[u64], pending: Table) -> Choice
+    ensures { λ r. ⌜ r ≡ choiceOf way (now (fences .entry)) pending ⌝ }
+{
+    if Table::NONE.at_least(pending) {
+        return Choice::Nothing;
+    }
+    match way {
+        Way::Sparing => lowest_fence(fences, pending),
+        Way::Full => last_fence(fences, pending),
+    }
+}
+
+fn lowest_fence(fences: &[u64], pending: Table) -> Choice
+    ensures { λ r. ⌜ r ≡ lowest (λ (g : ℕ). atLeast (tableAt (now (fences .entry)) g) pending) 0 (length (now (fences .entry))) ⌝ }
+{
+    let mut g = 0;
+    while g < fences.len() {
+        if fence_table(fences, g).at_least(pending) {
+            return Choice::Fence(g);
+        }
+        g += 1;
+    }
+    Choice::Refused
+}
+
+fn last_fence(fences: &[u64], pending: Table) -> Choice
+    ensures { λ r. ⌜ r ≡ last (λ (g : ℕ). atLeast (tableAt (now (fences .entry)) g) pending) (length (now (fences .entry))) ⌝ }
+{
+    let n = fences.len();
+    if n == 0 {
+        return Choice::Refused;
+    }
+    if fence_table(fences, n - 1).at_least(pending) {
+        Choice::Fence(n - 1)
+    } else {
+        Choice::Refused
+    }
+}
+
+// An access of this kind, in this situation, with the two defaults and the target's fences.
+pub fn take(
+    way: Way,
+    upstream: Table,
+    target: Table,
+    fences: &[u64],
+    situation: Situation,
+    kind: Kind,
+) -> Step
+    ensures { λ r. ⌜ r ≡ stepped way upstream (record { ppo = target; fences = now (fences .entry) }) situation kind ⌝ }
+{
+    let choice = choose(way, fences, situation.pending(kind));
+    match choice {
+        Choice::Nothing => Step::Plain(situation.joins(upstream, target, kind)),
+        Choice::Fence(g) => {
+            let offered = situation.offers(fence_table(fences, g));
+            Step::Fenced(g, offered.joins(upstream, target, kind))
+        }
+        Choice::Refused => Step::Refused,
+    }
+}

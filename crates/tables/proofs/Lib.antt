@@ -1,0 +1,4 @@
+pub mod Excess
+pub mod Laws
+pub mod Packed
+pub mod Unique

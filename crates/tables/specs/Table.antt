@@ -1,0 +1,99 @@
+-- Document 01: "A cell is one of `-` (unordered), `N` (non-atomic), `M` (multiple-copy atomic), `S` (single-copy atomic, or plainly
+-- ordered), in that rising order." "A table has sixteen cells, written as four rows for the earlier access in the order cld, cst,
+-- ld, st, each with columns for the later access in the order ld, cld, st, cst."
+-- A cell is its level: 0 for `-`, 1 for `N`, 2 for `M`, 3 for `S`.
+use Prim.Native.Nat.{ℕ, _+_, _*_, _/_, _%_, _^_, _<_, max, min}
+use mathlib.Core.Bool.{Bool, true, false}
+use mathlib.Core.Path.{_≡_}
+use mathlib.Core.List.{List}
+use lib.ListN.{getD}
+use lib.Dec.{ltb, eqb}
+use Rattle.tables.specs.declared.table.Row.{Row}
+use Rattle.tables.specs.declared.table.Column.{Column}
+use Rattle.tables.specs.declared.table.Table.{Table}
+use Rattle.tables.specs.declared.table.Merge.{Merge}
+use Rattle.tables.specs.Cells.{digit, packed}
+
+abbrev pub rowNumber : Row → ℕ
+rowNumber Row.Cld = 0
+rowNumber Row.Cst = 1
+rowNumber Row.Ld = 2
+rowNumber Row.St = 3
+
+abbrev pub columnNumber : Column → ℕ
+columnNumber Column.Ld = 0
+columnNumber Column.Cld = 1
+columnNumber Column.St = 2
+columnNumber Column.Cst = 3
+
+-- how many cells a table has
+abbrev pub cells : ℕ
+cells = 16
+
+-- a cell's place: row after row, and in a row column after column
+abbrev pub place : Row → Column → ℕ
+place r c = 4 * rowNumber r + columnNumber c
+
+abbrev pub cell : Table → Row → Column → ℕ
+cell t r c = digit (t .packed) (place r c)
+
+abbrev pub choose : {A : Type 0} → Bool → A → A → A
+choose true a b = a
+choose false a b = b
+
+-- the row and the column of a number
+abbrev pub rowOf : ℕ → Row
+rowOf n = choose (eqb n 0) Row.Cld (choose (eqb n 1) Row.Cst (choose (eqb n 2) Row.Ld Row.St))
+
+abbrev pub columnOf : ℕ → Column
+columnOf n = choose (eqb n 0) Column.Ld (choose (eqb n 1) Column.Cld (choose (eqb n 2) Column.St Column.Cst))
+
+-- the table with these cells
+unfoldable pub table : (Row → Column → ℕ) → Table
+table f = record { packed = packed (λ (i : ℕ). f (rowOf (i / 4)) (columnOf (i % 4))) cells }
+
+-- no bit is set beyond the cells
+abbrev pub Clean : Table → Type 0
+Clean t = t .packed < 2 ^ (2 * cells)
+
+-- the first of two cells where it exceeds the second, `-` elsewhere
+abbrev pub excess : ℕ → ℕ → ℕ
+excess a b = choose (ltb b a) a 0
+
+-- what one cell of a table made from two is
+abbrev pub merged : Merge → ℕ → ℕ → ℕ
+merged Merge.Higher a b = max a b
+merged Merge.Lower a b = min a b
+merged Merge.Exceeding a b = excess a b
+
+unfoldable pub mergedTable : Merge → Table → Table → Table
+mergedTable how a b = table (λ (r : Row) (c : Column). merged how (cell a r c) (cell b r c))
+
+-- the higher of each cell; the lower of each cell; each cell of the first where it exceeds that of the second
+abbrev pub higher : Table → Table → Table
+higher = mergedTable Merge.Higher
+
+abbrev pub lower : Table → Table → Table
+lower = mergedTable Merge.Lower
+
+abbrev pub exceeding : Table → Table → Table
+exceeding = mergedTable Merge.Exceeding
+
+-- every cell of the second is at most that cell of the first
+unfoldable pub atLeast : Table → Table → Bool
+atLeast a b = eqb (exceeding b a .packed) 0
+
+-- S in one row or one column, `-` elsewhere
+unfoldable pub rowTable : Row → Table
+rowTable r = table (λ (s : Row) (c : Column). choose (eqb (rowNumber s) (rowNumber r)) 3 0)
+
+unfoldable pub columnTable : Column → Table
+columnTable c = table (λ (r : Row) (d : Column). choose (eqb (columnNumber d) (columnNumber c)) 3 0)
+
+-- one cell, `-` elsewhere
+unfoldable pub singleTable : Row → Column → ℕ → Table
+singleTable r c s = table (λ (q : Row) (d : Column). choose (eqb (place q d) (place r c)) s 0)
+
+-- sixteen levels, row after row
+unfoldable pub levelsTable : List ℕ → Table
+levelsTable levels = table (λ (r : Row) (c : Column). getD levels (place r c) 0)
