@@ -2,3 +2,4 @@ pub mod Index
 pub mod Words
 pub mod Refine
 pub mod Rows
+pub mod Shim

@@ -2,3 +2,4 @@
 mod index;
 mod refine;
 mod rows;
+mod step;

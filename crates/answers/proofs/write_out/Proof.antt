@@ -35,7 +35,7 @@ loop-less : tie.Need-loop-less Inv-loop μ-loop
 loop-less c = search needs
 
 loop-again : tie.Need-loop-again Inv-loop μ-loop
-loop-again c = 
+loop-again c =
     let l = c .before .before .loop in
     let a = c .before .before .before .before .args in
     let v = l .inv in (
@@ -50,7 +50,7 @@ same-length : tie.Need-same-length Inv-loop μ-loop
 same-length c = c .before .loop .inv .3
 
 returns-2 : tie.Need-returns-2 Inv-loop μ-loop
-returns-2 c = 
+returns-2 c =
     let a = c .before .before .before .args in
     let l = c .before .loop in (
       sym (writing-fits (now (a .text)) (a .fences) (a .state) (length (now (a .out))) (omega arith)),
