@@ -5,3 +5,4 @@ pub mod Keys
 pub mod Rounds
 pub mod Entries
 pub mod Firsts
+pub mod Exploration

@@ -3,3 +3,4 @@ pub mod Words
 pub mod Refine
 pub mod Rows
 pub mod Shim
+pub mod Explore

@@ -5,7 +5,7 @@ use mathlib.Core.Logic.{_⊎_, inl, inr, ⊎-elim}
 use mathlib.Core.List.{List, [], _∷_, _++_, append-nil}
 use native.Mathlib.Omega.{arith}
 use lib.ListN.{length, getD, length-append, List·getD-append}
-use native.Mathlib.Decide.{decLt}
+use native.Mathlib.Decide.{decLt, ℕ-discrete}
 use lib.Seq.{getD-append-seam, append-snoc}
 use Rattle.mealy.specs.Runs.{Answer, refused, taken, Machine, go, ends, Accepted, AcceptedFrom, reached}
 use Rattle.mealy.specs.Order.{_≺_, _≼_, _▹_}
@@ -69,7 +69,7 @@ module _ {S O : Type 0} (m : Machine S O) where
   before-below {ws} x j b l c h (inr q) = rw (q .0) (below-last (getD ws l []) (q .1))
 
   -- every stream found arrives before the candidate's
-  ahead : {ws : List (List ℕ)} {row : ℕ → ℕ → Answer O ℕ} {i a : ℕ} → Exploring m ws row i a → i < length ws → (p : ℕ) → p < length ws
+  pub ahead : {ws : List (List ℕ)} {row : ℕ → ℕ → Answer O ℕ} {i a : ℕ} → Exploring m ws row i a → i < length ws → (p : ℕ) → p < length ws
       → getD ws p [] ≺ getD ws i [] ▹ a
   ahead {ws} {row} {i} {a} x h zero q = rw (x .starts) (nil-below (getD ws i []) a)
   ahead {ws} {row} {i} {a} x h (suc p) q =
@@ -101,7 +101,7 @@ module _ {S O : Type 0} (m : Machine S O) where
 
   -- a letter that is refused, or leads to what has been found
   pub explore-known : {ws : List (List ℕ)} {row : ℕ → ℕ → Answer O ℕ} {i a : ℕ} → Exploring m ws row i a
-      → (next : ℕ → ℕ → Answer O ℕ) → ((j b : ℕ) → Before j b i a → next j b ≡ row j b) → Met m ws i a (next i a)
+      → (next : ℕ → ℕ → Answer O ℕ) → ((j b : ℕ) → Before j b i a → b < m .letters → next j b ≡ row j b) → Met m ws i a (next i a)
       → Exploring m ws next i (a + 1)
   explore-known {ws} {row} {i} {a} x next kept here =
       record {
@@ -113,7 +113,7 @@ module _ {S O : Type 0} (m : Machine S O) where
         apart = x .apart;
         found = λ p l q. let from = x .found p l q in (from .0, from .1, before-on (from .2), from .3);
         met = λ j b l q.
-            ⊎-elim (λ (k : Before j b i a). rw (kept j b k) (x .met j b k q))
+            ⊎-elim (λ (k : Before j b i a). rw (kept j b k q) (x .met j b k q))
             (λ (k : (j ≡ i) × (b ≡ a)). rw (k .0, k .1) here)
             (before-next l);
       }
@@ -129,7 +129,7 @@ module _ {S O : Type 0} (m : Machine S O) where
 
   -- a letter that leads to what has not been found
   pub explore-new : {ws : List (List ℕ)} {row : ℕ → ℕ → Answer O ℕ} {i a : ℕ} → Exploring m ws row i a → i < length ws
-      → (next : ℕ → ℕ → Answer O ℕ) → ((j b : ℕ) → Before j b i a → next j b ≡ row j b)
+      → (next : ℕ → ℕ → Answer O ℕ) → ((j b : ℕ) → Before j b i a → b < m .letters → next j b ≡ row j b)
       → (o : O) (t : S) → m .step (arrival m ws i) a ≡ taken o t → ((p : ℕ) → p < length ws → arrival m ws p ≡ t → ⊥)
       → next i a ≡ taken o (length ws)
       → Exploring m (ws ++ ((getD ws i [] ▹ a) ∷ [])) next i (a + 1)
@@ -176,7 +176,7 @@ module _ {S O : Type 0} (m : Machine S O) where
       from p l (inr r) = (i, a, inr (refl, omega arith), rw (r, new ws v, old ws v h))
 
       past : (j b : ℕ) → Before j b i a → b < m .letters → Met m (_▹▹_ ws v) j b (next j b)
-      past j b k r = rw (kept j b k) (met-more ws v j b (row j b) (before-here h k) (x .met j b k r))
+      past j b k r = rw (kept j b k r) (met-more ws v j b (row j b) (before-here h k) (x .met j b k r))
 
       now : (j b : ℕ) → (j ≡ i) × (b ≡ a) → Met m (_▹▹_ ws v) j b (next j b)
       now j b k =
@@ -235,3 +235,35 @@ module _ {S O : Type 0} (m : Machine S O) where
   -- streams that have been found are so many situations
   pub explore-many : {ws : List (List ℕ)} {row : ℕ → ℕ → Answer O ℕ} {i a : ℕ} → Exploring m ws row i a → (n : ℕ) → n < length ws → More m _≡_ n
   explore-many {ws} x n h = record { streams = ws; many = h; accepted = x .accepted; apart = x .apart }
+
+  -- and one stream more where a letter leads to what has not been found
+  pub explore-beyond : {ws : List (List ℕ)} {row : ℕ → ℕ → Answer O ℕ} {i a : ℕ} → Exploring m ws row i a → i < length ws
+      → (o : O) (t : S) → m .step (arrival m ws i) a ≡ taken o t → ((p : ℕ) → p < length ws → arrival m ws p ≡ t → ⊥)
+      → (n : ℕ) → n ≡ length ws → More m _≡_ n
+  explore-beyond {ws} {row} {i} {a} x h o t e unseen n size =
+      explore-many (explore-new x h next kept o t e unseen last) n (omega (arith, length-more ws (getD ws i [] ▹ a)))
+    where
+      choose : {j b : ℕ} → Dec (j ≡ i) → Dec (b ≡ a) → Answer O ℕ
+      choose {j} {b} (no d) f = row j b
+      choose {j} {b} (yes d) (no f) = row j b
+      choose {j} {b} (yes d) (yes f) = taken o (length ws)
+
+      next : ℕ → ℕ → Answer O ℕ
+      next j b = choose (ℕ-discrete j i) (ℕ-discrete b a)
+
+      kept : (j b : ℕ) → Before j b i a → b < m .letters → next j b ≡ row j b
+      kept j b before l = look before (ℕ-discrete j i) (ℕ-discrete b a)
+        where
+          look : Before j b i a → (d : Dec (j ≡ i)) (f : Dec (b ≡ a)) → choose d f ≡ row j b
+          look q (no d) f = refl
+          look q (yes d) (no f) = refl
+          look (inl q) (yes d) (yes f) = absurd (omega arith)
+          look (inr q) (yes d) (yes f) = absurd (omega arith)
+
+      last : next i a ≡ taken o (length ws)
+      last = look (ℕ-discrete i i) (ℕ-discrete a a)
+        where
+          look : (d : Dec (i ≡ i)) (f : Dec (a ≡ a)) → choose d f ≡ taken o (length ws)
+          look (yes d) (yes f) = refl
+          look (yes d) (no f) = absurd (f refl)
+          look (no d) f = absurd (d refl)
