@@ -19,8 +19,9 @@ use Rattle.mealy.proofs.Exploring.{ahead, explore-known, explore-new, explore-b
 use Rattle.machine.specs.Index.{capacity, needAt, lowAt, Index, Pair, Absent, Pushed, Placed, known, added, full}
 use Rattle.machine.specs.Words.{stride, words, at, answer, row}
 use Rattle.machine.specs.Rows.{Narrow}
-use Rattle.machine.specs.Explore.{situationAt, Output, Explored}
-use Rattle.machine.proofs.Keys.{word-refused, word-taken}
+use Rattle.machine.specs.Explore.{situationAt, Output, Explored, Stored, stored, unstored, Onward, onward, beyond}
+use Rattle.machine.proofs.Keys.{word-taken}
+use Rattle.machine.proofs.Naming.{placed-low}
 
 -- the word of an answer
 pub encoded : (o q w : ℕ) → q < capacity → w ≡ (o + 1) * 4096 + q → answer w ≡ taken o q
@@ -197,3 +198,11 @@ module _ {m : Machine Situation ℕ} {pairs links table : List ℕ} {count i a :
     explored-beyond (added h absent more pushed) e = absurd (omega arith)
     explored-beyond (full h absent size same) e =
         explore-beyond m (x .exploring) found o t (step-here taking) (unseen absent) capacity (omega (arith, x .size))
+
+    -- and its word stored
+    pub explored-stored : {pairs′ links′ table′ : List ℕ} {r : ℕ}
+        → Stored pairs table count i a o (t .need .packed) (t .low .packed) pairs′ links′ table′ r → Onward m count pairs′ links′ table′ i (a + 1) r
+    explored-stored {r = r} (stored q placed room word e) =
+        rw word
+        (onward (omega arith) (omega (arith, placed-low placed, x .index .fits, room)) (explored-taken placed room refl e))
+    explored-stored (unstored q placed e over) = beyond over (explored-beyond placed e)

@@ -6,3 +6,4 @@ pub mod Rounds
 pub mod Entries
 pub mod Firsts
 pub mod Exploration
+pub mod Letters

@@ -1,4 +1,5 @@
 // The minimal machine of two models and a way.
+mod explore;
 mod index;
 mod refine;
 mod rows;

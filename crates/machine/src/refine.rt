@@ -52,7 +52,7 @@ fn clear(links: &mut [u16])
     }
 }
 
-fn larger(x: usize, y: usize) -> usize
+pub(crate) fn larger(x: usize, y: usize) -> usize
     ensures { λ r. ⌜ r ≡ max x y ⌝ }
 {
     if x < y { y } else { x }
