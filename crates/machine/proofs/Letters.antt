@@ -61,3 +61,9 @@ letter-output way up target s a o t few e = look (decLt a 4)
     look (no h) =
         let f : taken 255 _ ≡ taken o t = rw (le-ltb a 4 (omega arith)) at e in
         inr (cc)
+
+-- an answer to a letter is the machine's step
+pub answered-step : (way : Way) (up target : Model) {s z : Situation} {a : ℕ} {y : Answer ℕ Situation} → a < lettersOf up → s ≡ z
+    → letterAnswer way up target s a ≡ y → (shim way up target) .step z a ≡ y
+answered-step way up target {s} {z} {a} h e f =
+    shim-step way up target z a h ∙ ap (λ (t : Situation). letterAnswer way up target t a) (sym e) ∙ f

@@ -1,9 +1,11 @@
 -- The rule as a machine: its situations, its step, its alphabet. 01: "by operation in the order l, L, s, S, 0 upwards".
 use Prim.Native.Nat.{ℕ, _+_, _-_}
 use mathlib.Core.Path.{_≡_}
+use mathlib.Core.List.{List}
 use lib.ListN.{length}
 use lib.Dec.{ltb, eqb}
 use borrow.Author.Tests.{le-ltb}
+use Rattle.tables.specs.declared.table.Table.{Table}
 use Rattle.rule.specs.declared.operation.Kind.{Kind}
 use Rattle.rule.specs.declared.operation.Operation.{Operation}
 use Rattle.rule.specs.declared.situation.Situation.{Situation}
@@ -46,6 +48,10 @@ shim way up target =
       outside = λ s a h. rw (le-ltb a (lettersOf up) h);
       fresh = fresh;
     }
+
+-- the same of two default tables and the fences' packed tables
+abbrev pub shimOf : Way → Table → List ℕ → Table → List ℕ → Machine Situation ℕ
+shimOf way up ups target fences = shim way (record { ppo = up; fences = ups }) (record { ppo = target; fences = fences })
 
 abbrev pub meant : Answered → Answer ℕ Situation
 meant Answered.Refused = refused

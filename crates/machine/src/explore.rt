@@ -5,10 +5,14 @@ ghost use Prim.Native.Nat.{_+_, _*_, _<_, _≤_};
 ghost use lib.ListN.{length};
 ghost use Rattle.machine.specs.Index.{capacity, Index};
 ghost use Rattle.machine.specs.Words.{stride, words};
-ghost use Rattle.machine.specs.Explore.{situationAt, Stored};
+ghost use Rattle.machine.specs.Explore.{situationAt, Explored, Stored, Onward};
+ghost use Rattle.machine.specs.Shim.{shimOf};
 use crate::index;
 use crate::refine;
+use crate::step;
+use crate::step::Answered;
 use rule::situation::Situation;
+use rule::way::Way;
 use tables::table::Table;
 
 fn situation_at(pairs: &[u64], p: usize) -> Situation
@@ -48,4 +52,33 @@ fn store(
     }
     table[i * 20 + a] = ((o + 1) * 4096 + q) as u32;
     refine::larger(count, q + 1)
+}
+
+// Answers candidate (i, a), and gives the count of situations; 4097 where they are more than 4096.
+fn explore_letter<'a>(
+    way: Way,
+    up: Table,
+    ups: &'a [u64],
+    target: Table,
+    fences: &'a [u64],
+    pairs: &mut [u64],
+    links: &mut [u16],
+    table: &mut [u32],
+    count: usize,
+    i: usize,
+    a: usize,
+) -> usize
+    requires { ⌜ Explored (shimOf way up (now ups) target (now fences)) (now pairs) (now links) (now table) count i a ⌝ }
+    requires { ⌜ (i < count) × (a < 4 + length (now ups)) × (length (now ups) ≤ 16) × (length (now fences) ≤ 16) ⌝ }
+    ensures { λ r. ⌜ Onward (shimOf way up (now (ups .entry)) target (now (fences .entry))) count (now (pairs .exit)) (now (links .exit)) (now (table .exit)) i (a + 1) r ⌝ }
+{
+    let s = situation_at(pairs, i);
+    let answered = step::answer(way, up, ups, target, fences, s, a);
+    match answered {
+        Answered::Taken(o, next) => store(pairs, links, table, count, i, a, o, next),
+        Answered::Refused => {
+            table[i * 20 + a] = 0;
+            count
+        }
+    }
 }
