@@ -7,3 +7,4 @@ pub mod Entries
 pub mod Firsts
 pub mod Exploration
 pub mod Letters
+pub mod Breadth

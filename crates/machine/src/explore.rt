@@ -82,3 +82,44 @@ fn explore_letter<'a>(
         }
     }
 }
+
+// Answers every letter at situation i, and gives the count of situations; 4097 where they are more than 4096.
+fn explore_row<'a>(
+    way: Way,
+    up: Table,
+    ups: &'a [u64],
+    target: Table,
+    fences: &'a [u64],
+    pairs: &mut [u64],
+    links: &mut [u16],
+    table: &mut [u32],
+    began: usize,
+    i: usize,
+) -> usize
+    requires { ⌜ Explored (shimOf way up (now ups) target (now fences)) (now pairs) (now links) (now table) began i 0 ⌝ }
+    requires { ⌜ (i < began) × (length (now ups) ≤ 16) × (length (now fences) ≤ 16) ⌝ }
+    ensures { λ r. ⌜ Onward (shimOf way up (now (ups .entry)) target (now (fences .entry))) began (now (pairs .exit)) (now (links .exit)) (now (table .exit)) (i + 1) 0 r ⌝ }
+{
+    let mut count = began;
+    let mut a = 0;
+    while a < 4 + ups.len() {
+        count = explore_letter(
+            way,
+            up,
+            ups,
+            target,
+            fences,
+            pairs,
+            links,
+            table,
+            count,
+            i,
+            a,
+        );
+        if 4096 < count {
+            return count;
+        }
+        a += 1;
+    }
+    count
+}
