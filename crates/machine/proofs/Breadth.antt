@@ -1,15 +1,18 @@
 -- Exploring row after row. Assumes nothing.
-use Prim.Native.Nat.{ℕ, _+_, _-_, _≤_, _<_}
-use mathlib.Core.Path.{_≡_, refl, sym, _∙_, ap}
-use mathlib.Core.List.{List, []}
+use Prim.Native.Nat.{ℕ, _+_, _≤_, _<_}
+use mathlib.Core.Path.{_≡_, refl, _∙_, ap₂}
+use mathlib.Core.List.{List, [], _∷_}
 use native.Mathlib.Omega.{arith}
 use lib.ListN.{length}
 use Rattle.rule.specs.declared.situation.Situation.{Situation}
+use Rattle.rule.specs.Situation.{fresh}
 use Rattle.mealy.specs.Runs.{Machine}
-use Rattle.mealy.specs.Arrivals.{More}
-use Rattle.mealy.proofs.Exploring.{explore-row}
-use Rattle.machine.specs.Index.{capacity}
-use Rattle.machine.specs.Explore.{Explored, Onward, onward, beyond}
+use Rattle.mealy.proofs.Runs.{untaken}
+use Rattle.mealy.proofs.Exploring.{explore-start, explore-row}
+use Rattle.machine.specs.Index.{capacity, Placed, known, added, full}
+use Rattle.machine.specs.Words.{words, row}
+use Rattle.machine.specs.Explore.{Explored, Onward, onward, beyond, Blank, Fresh}
+use Rattle.machine.proofs.Exploration.{pair}
 
 -- of more than there is room for
 pub over : {m : Machine Situation ℕ} {count : ℕ} {pairs links table : List ℕ} {i a r : ℕ} → Onward m count pairs links table i a r → capacity < r
@@ -50,3 +53,37 @@ rowing-end {m} {count = count} {i = i} {a = a} x h =
       narrow = y .narrow;
       outputs = y .outputs;
     })
+
+-- the fresh situation alone
+pub fresh-placed : {pairs : List ℕ} {s : Situation} → s ≡ fresh → {pairs′ links′ : List ℕ} {q : ℕ}
+    → Placed pairs 0 (s .need .packed) (s .low .packed) pairs′ links′ q → Fresh pairs′ links′
+fresh-placed f (known h there same y) = absurd (omega arith)
+fresh-placed f (full h absent size same) = absurd (omega arith)
+fresh-placed f (added h absent more pushed) =
+    record { index = pushed .index; situation = ap₂ pair (pushed .new .0) (pushed .new .1) ∙ f }
+
+pub explored-start : {m : Machine Situation ℕ} {pairs links table : List ℕ} → Fresh pairs links → (length table ≡ words) × Blank table
+    → fresh ≡ m .fresh → Explored m pairs links table 1 0 0
+explored-start {m} {table = table} x t e =
+    record {
+      streams = [] ∷ [];
+      size = refl;
+      exploring = explore-start m (row table);
+      index = x .index;
+      situations = λ p l. let one : p ≡ 0 = omega arith in rw one (x .situation ∙ e);
+      whole = t .0;
+      narrow = record { narrow = λ p. rw (t .1 .blank p) (omega arith) };
+      outputs = λ p o j d. absurd (untaken (rw (t .1 .blank p) at d));
+    }
+
+pub explored-next : {m : Machine Situation ℕ} {count : ℕ} {pairs links table : List ℕ} {i a r : ℕ} → Onward m count pairs links table i a r
+    → r ≤ capacity → Explored m pairs links table r i a
+explored-next (onward grown fits x) h = x
+explored-next (beyond e more) h = absurd (omega arith)
+
+-- every situation found has its row
+pub explored-end : {m : Machine Situation ℕ} {pairs links table : List ℕ} {count i : ℕ} → Explored m pairs links table count i 0 → count ≤ i
+    → Onward m 0 pairs links table count 0 count
+explored-end {count = count} {i = i} x h =
+    let e : i ≡ count = omega (arith, x .exploring .here, x .size) in
+    onward (omega arith) (x .index .fits) (rw e at x)

@@ -65,7 +65,7 @@ module _ (table : List ℕ) (i a w : ℕ) (fits : i * stride + a < length table)
       ]
 
 -- a situation is its two numbers
-abbrev pair : ℕ → ℕ → Situation
+abbrev pub pair : ℕ → ℕ → Situation
 pair n l = record { need = record { packed = n }; low = record { packed = l } }
 
 pair-situation : (pairs : List ℕ) (t : Situation) (p : ℕ) → Pair pairs (t .need .packed) (t .low .packed) p → situationAt pairs p ≡ t

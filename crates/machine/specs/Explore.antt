@@ -5,6 +5,7 @@ use mathlib.Core.Logic.{_⊎_}
 use mathlib.Core.List.{List}
 use lib.ListN.{length, set}
 use Rattle.rule.specs.declared.situation.Situation.{Situation}
+use Rattle.rule.specs.Situation.{fresh}
 use Rattle.mealy.specs.Runs.{Answer, taken, Machine}
 use Rattle.mealy.specs.Arrivals.{arrival, More}
 use Rattle.mealy.specs.Exploring.{Exploring}
@@ -41,3 +42,12 @@ pub data Stored (pairs table : List ℕ) (count i a o need low : ℕ) (pairs′ 
 pub data Onward (m : Machine Situation ℕ) (count : ℕ) (pairs links table : List ℕ) (i a r : ℕ) : Type 0 where
   onward : count ≤ r → r ≤ capacity → Explored m pairs links table r i a → Onward m count pairs links table i a r
   beyond : r ≡ 4097 → More m _≡_ capacity → Onward m count pairs links table i a r
+
+-- nothing has been written
+pub record Blank (table : List ℕ) : Type 0 where
+  pub blank : (p : ℕ) → at table p ≡ 0
+
+-- one situation has been found, the fresh one
+pub record Fresh (pairs links : List ℕ) : Type 0 where
+  pub index : Index pairs links 1
+  pub situation : situationAt pairs 0 ≡ fresh

@@ -3,9 +3,9 @@
 ghost use mathlib.Core.Path.{_≡_};
 ghost use Prim.Native.Nat.{_+_, _*_, _<_, _≤_};
 ghost use lib.ListN.{length};
-ghost use Rattle.machine.specs.Index.{capacity, Index};
+ghost use Rattle.machine.specs.Index.{capacity, Scratch, Index};
 ghost use Rattle.machine.specs.Words.{stride, words};
-ghost use Rattle.machine.specs.Explore.{situationAt, Explored, Stored, Onward};
+ghost use Rattle.machine.specs.Explore.{situationAt, Explored, Stored, Onward, Blank, Fresh};
 ghost use Rattle.machine.specs.Shim.{shimOf};
 use crate::index;
 use crate::refine;
@@ -122,4 +122,63 @@ fn explore_row<'a>(
         a += 1;
     }
     count
+}
+
+// Puts the fresh situation at place 0.
+fn begin(pairs: &mut [u64], links: &mut [u16])
+    requires { ⌜ Scratch (now pairs) (now links) ⌝ }
+    ensures { λ _. ⌜ Fresh (now (pairs .exit)) (now (links .exit)) ⌝ }
+{
+    refine::clear(links);
+    let fresh = Situation::fresh();
+    let need = fresh.need.packed;
+    let low = fresh.low.packed;
+    index::place(pairs, links, 0, need, low);
+}
+
+// Answers every letter at every situation, and gives the count of situations; 4097 where they are more than 4096.
+fn explore_all<'a>(
+    way: Way,
+    up: Table,
+    ups: &'a [u64],
+    target: Table,
+    fences: &'a [u64],
+    pairs: &mut [u64],
+    links: &mut [u16],
+    table: &mut [u32],
+) -> usize
+    requires { ⌜ Explored (shimOf way up (now ups) target (now fences)) (now pairs) (now links) (now table) 1 0 0 ⌝ }
+    requires { ⌜ (length (now ups) ≤ 16) × (length (now fences) ≤ 16) ⌝ }
+    ensures { λ r. ⌜ Onward (shimOf way up (now (ups .entry)) target (now (fences .entry))) 0 (now (pairs .exit)) (now (links .exit)) (now (table .exit)) r 0 r ⌝ }
+{
+    let mut count = 1;
+    let mut i = 0;
+    while i < count {
+        count = explore_row(way, up, ups, target, fences, pairs, links, table, count, i);
+        if 4096 < count {
+            return count;
+        }
+        i += 1;
+    }
+    count
+}
+
+// Explores from nothing.
+pub(crate) fn explore<'a>(
+    way: Way,
+    up: Table,
+    ups: &'a [u64],
+    target: Table,
+    fences: &'a [u64],
+    pairs: &mut [u64],
+    links: &mut [u16],
+    table: &mut [u32],
+) -> usize
+    requires { ⌜ Scratch (now pairs) (now links) ⌝ }
+    requires { ⌜ (length (now table) ≡ words) × Blank (now table) ⌝ }
+    requires { ⌜ (length (now ups) ≤ 16) × (length (now fences) ≤ 16) ⌝ }
+    ensures { λ r. ⌜ Onward (shimOf way up (now (ups .entry)) target (now (fences .entry))) 0 (now (pairs .exit)) (now (links .exit)) (now (table .exit)) r 0 r ⌝ }
+{
+    begin(pairs, links);
+    explore_all(way, up, ups, target, fences, pairs, links, table)
 }
