@@ -1,17 +1,17 @@
 -- From what exploring has found to the machine: the table describes the situations, the classes are states, and the rows written describe them.
 -- Assumes nothing.
 use Prim.Native.Nat.{ℕ, _+_, _-_, _*_, _/_, _%_, _≤_, _<_}
-use mathlib.Core.Path.{_≡_, refl, sym, _∙_, ap, ap₂}
+use mathlib.Core.Path.{_≡_, refl, sym, _∙_, ap}
 use mathlib.Core.Logic.{_⊎_, inl, inr}
 use mathlib.Core.List.{List}
 use native.Mathlib.Omega.{arith}
 use native.Mathlib.Decide.{decLt}
-use borrow.Author.Tests.{lt-ltb, le-ltb, eq-eqb, ne-eqb}
+use borrow.Author.Tests.{lt-ltb, le-ltb, ne-eqb}
 use lib.ListN.{length}
 use Rattle.tables.specs.declared.table.Table.{Table}
 use Rattle.rule.specs.declared.situation.Situation.{Situation}
 use Rattle.rule.specs.declared.way.Way.{Way}
-use Rattle.mealy.specs.Runs.{Answer, refused, taken, Machine, Same}
+use Rattle.mealy.specs.Runs.{taken, Machine, Same}
 use Rattle.mealy.specs.Arrivals.{Entry, Described, More, AtMost}
 use Rattle.mealy.specs.Classes.{Numbering, classed, States}
 use Rattle.mealy.proofs.Unique.{Alike, arrivals-at-most}
@@ -21,7 +21,7 @@ use Rattle.mealy.proofs.Describing.{numbered-step}
 use Rattle.mealy.proofs.States.{rows-closed, classes-many, classes-states}
 use Rattle.machine.specs.Index.{capacity}
 use Rattle.machine.specs.Words.{stride, at, answer, row, tabled}
-use Rattle.machine.specs.Rows.{decoded, rowOf, stateWord, stateEntry, RowsWritten}
+use Rattle.machine.specs.Rows.{decoded, stateWord, stateEntry, RowsWritten}
 use Rattle.machine.specs.Refine.{Begun, Crowd}
 use Rattle.machine.specs.Explore.{Explored, Output, Blank}
 use Rattle.machine.specs.Shim.{shimOf}

@@ -10,14 +10,13 @@ use borrow.Author.Tests.{lt-ltb, le-ltb}
 use lib.ListN.{length}
 use Rattle.tables.specs.declared.table.Table.{Table}
 use Rattle.tables.specs.Table.{atLeast}
-use Rattle.rule.specs.declared.operation.Kind.{Kind}
 use Rattle.rule.specs.declared.situation.Situation.{Situation}
 use Rattle.rule.specs.declared.way.Way.{Way}
 use Rattle.rule.specs.declared.way.Choice.{Choice}
-use Rattle.rule.specs.Pairs.{Model, tableAt}
+use Rattle.rule.specs.Pairs.{Model}
 use Rattle.rule.specs.Situation.{none, pending, choiceOf, stepOf}
 use Rattle.rule.proofs.Choices.{Takes, serves, choice-nothing, choice-pick, pick-takes}
-use Rattle.mealy.specs.Runs.{Answer, refused, taken, Machine}
+use Rattle.mealy.specs.Runs.{Answer, taken}
 use Rattle.mealy.proofs.Runs.{untaken}
 use Rattle.machine.specs.Shim.{kindOf, lettersOf, stepAnswer, letterAnswer, shim}
 use Rattle.machine.specs.Explore.{Output}

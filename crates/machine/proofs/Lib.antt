@@ -9,3 +9,4 @@ pub mod Exploration
 pub mod Letters
 pub mod Breadth
 pub mod Finish
+pub mod Zeros
