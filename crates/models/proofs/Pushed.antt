@@ -39,10 +39,10 @@ map-snoc : {A B : Type 0} (f : A → B) (l : List A) (x : A) → map f (l ++ (x 
 map-snoc f [] x = refl
 map-snoc f (y ∷ l) x = ap (λ (m : List _). f y ∷ m) (map-snoc f l x)
 
-abbrev packedOf : Fence → ℕ
+abbrev pub packedOf : Fence → ℕ
 packedOf f = f .table .packed
 
-abbrev heldName : Fence → Name
+abbrev pub heldName : Fence → Name
 heldName f = filled (f .name)
 
 module _ (d : Description) where

@@ -157,11 +157,11 @@ module _ (t : List ℕ) (n : List ℕ) (x : Table) (tail : List ℕ) (named-well
       (table-there t tail x (N + 4) at-ppo-table clean)
 
 -- the fences' lines, part by part
-fences-split : (xs ys : List Fence) → fencesText (xs ++ ys) ≡ fencesText xs ++ fencesText ys
+pub fences-split : (xs ys : List Fence) → fencesText (xs ++ ys) ≡ fencesText xs ++ fencesText ys
 fences-split [] ys = refl
 fences-split (f ∷ xs) ys = ap (λ (l : List ℕ). fenceText f ++ l) (fences-split xs ys) ∙ sym (append-assoc (fenceText f) (fencesText xs) (fencesText ys))
 
-fence-long : (f : Fence) → length (fenceText f) ≡ 6 + (length (f .name) + 1) + 20
+pub fence-long : (f : Fence) → length (fenceText f) ≡ 6 + (length (f .name) + 1) + 20
 fence-long f = omega (arith, length-append (f .name) (bytes " " ++ tablePart (f .table)))
 
 module _ (d : Description) where

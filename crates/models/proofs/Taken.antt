@@ -29,13 +29,9 @@ name-more s i ls li =
     ∙ sym (append-snoc (take i s) (getD s i 0) (replicate k 0))
     ∙ ap (λ (l : List ℕ). l ++ replicate k 0) (sym (take-suc s i 0 ls) ∙ ap (λ (n : ℕ). take n s) (sym (add-one i)))
 
-pub name-done : (s : List ℕ) (n i : ℕ) → n ≡ nameRun 16 s → n ≤ length s → i ≡ n
-    → record { bytes = take i s ++ replicate (16 - i) 0 } ≡ nameIn s
-unfolding nameIn
-name-done s n i run ln e =
-    let whole : take i s ++ replicate (16 - i) 0 ≡ take n s ++ replicate (16 - length (take n s)) 0 =
-    ap₂ (λ (a b : ℕ). take a s ++ replicate (16 - b) 0) e (e ∙ sym (length-take-le n s ln)) in
-    ap (λ (l : List ℕ). record { bytes = l }) whole ∙ ap (λ (k : ℕ). filled (take k s)) run
+pub name-done : (s : List ℕ) (n i : ℕ) → n ≤ length s → i ≡ n → record { bytes = take i s ++ replicate (16 - i) 0 } ≡ filled (take n s)
+name-done s n i ln e =
+    ap (λ (l : List ℕ). record { bytes = l }) (ap₂ (λ (a b : ℕ). take a s ++ replicate (16 - b) 0) e (e ∙ sym (length-take-le n s ln)))
 
 -- one element more is stored where f says what each is
 pub stored-more : (l : List ℕ) (i x : ℕ) (f : ℕ → ℕ) → i < length l → x ≡ f i → ((j : ℕ) → j < i → getD l j 0 ≡ f j)

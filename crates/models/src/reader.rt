@@ -3,7 +3,7 @@ ghost use mathlib.Core.Path.{_≡_};
 ghost use Prim.Native.Nat.{ℕ, _+_, _≤_, _<_};
 ghost use lib.ListN.{length, take, drop};
 ghost use Rattle.models.specs.Scan.{levelOf};
-ghost use Rattle.models.specs.Reading.{nameIn, tableIn, sameBytes, among, bare, started, repeatOf, withFence, fenceFrom, refusing, finished, ended, linesFrom, reading, Told};
+ghost use Rattle.models.specs.Reading.{filled, nameIn, tableIn, sameBytes, among, bare, started, repeatOf, withFence, fenceFrom, refusing, finished, ended, linesFrom, reading, Told};
 use crate::model::Model;
 use crate::model::Name;
 use crate::model::Reading;
@@ -59,10 +59,11 @@ fn table_in(text: &[u8]) -> Table
     Table::of_levels(levels)
 }
 
-fn name_in(text: &[u8]) -> Name
-    ensures { λ r. ⌜ r ≡ nameIn (now (text .entry)) ⌝ }
+// The first bytes of a text as a name.
+pub fn first_bytes(text: &[u8], n: usize) -> Name
+    requires { ⌜ (n ≤ 16) × (n ≤ length (now text)) ⌝ }
+    ensures { λ r. ⌜ r ≡ filled (take n (now (text .entry))) ⌝ }
 {
-    let n = scan::name_bytes(text, 0);
     let mut bytes = [0u8; 16];
     let mut i = 0;
     while i < n {
@@ -70,6 +71,13 @@ fn name_in(text: &[u8]) -> Name
         i += 1;
     }
     Name { bytes }
+}
+
+fn name_in(text: &[u8]) -> Name
+    ensures { λ r. ⌜ r ≡ nameIn (now (text .entry)) ⌝ }
+{
+    let n = scan::name_bytes(text, 0);
+    first_bytes(text, n)
 }
 
 fn same_name(a: Name, b: Name) -> bool

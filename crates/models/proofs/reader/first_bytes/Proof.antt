@@ -1,0 +1,59 @@
+-- `first_bytes` meets its contract: after i turns the first i bytes are there, and zeros behind them. Assumes nothing.
+use borrow.Author.Needs.{needs}
+use mathlib.Core.Path.{_≡_, refl, sym, ap, _∙_}
+use Prim.Native.Nat.{ℕ, _+_, _-_, _≤_, _<_}
+use native.Mathlib.Omega.{arith}
+use denote.Ref.{now}
+use mathlib.Core.List.{List, _++_}
+use lib.ListN.{length, getD, take, set, replicate}
+use Rattle.models.proofs.Taken.{name-more, name-done}
+use Rattle.models.proofs.reader.first_bytes.Statement.{statement}
+use Rattle.models.proofs.reader.first_bytes.Tie as tie
+
+abbrev Inv-loop : tie.InvT-loop
+Inv-loop text n bytes₀ i₀ bytes i = (i ≤ n) × (n ≤ 16) × (n ≤ length text) × (bytes ≡ take i text ++ replicate (16 - i) 0)
+
+abbrev μ-loop : tie.MeasureT-loop
+μ-loop text n bytes₀ i₀ bytes i = n - i
+
+loop-holds : tie.Need-loop-holds Inv-loop μ-loop
+loop-holds c = (search needs, search needs, search needs, refl)
+
+shared-slice-read-bytes : tie.Need-shared-slice-read-bytes Inv-loop μ-loop
+shared-slice-read-bytes c = search needs
+
+array-write-bytes : tie.Need-array-write-bytes Inv-loop μ-loop
+array-write-bytes c = search needs
+
+add-i : tie.Need-add-i Inv-loop μ-loop
+add-i c = search needs
+
+loop-less : tie.Need-loop-less Inv-loop μ-loop
+loop-less c = search needs
+
+loop-again : tie.Need-loop-again Inv-loop μ-loop
+loop-again c =
+    let l = c .before .before .loop in
+    let t = now (c .before .before .before .args .text) in
+    let v = l .inv in
+    (search needs, v .1, v .2, ap (λ (s : List ℕ). set s (l .i) (getD t (l .i) 0)) (v .3) ∙ name-more t (l .i) (omega arith) (omega arith))
+
+returns : tie.Need-returns Inv-loop μ-loop
+returns c =
+    let l = c .before .loop in
+    let a = c .before .before .args in
+    ap (λ (s : List ℕ). record { bytes = s }) (l .inv .3) ∙ name-done (now (a .text)) (a .n) (l .i) (l .inv .2) (omega arith)
+
+pub first-bytes-spec : {M : Type 1} → statement M
+first-bytes-spec =
+    tie.close
+    (tie.spec
+    Inv-loop
+    μ-loop
+    loop-holds
+    shared-slice-read-bytes
+    array-write-bytes
+    add-i
+    loop-less
+    loop-again
+    returns)

@@ -1,0 +1,95 @@
+-- `advance` meets its contract: what the byte is says what it does. Assumes nothing.
+use Prim.Native.Nat.{ℕ}
+use mathlib.Core.Path.{_≡_, refl, sym, ap, _∙_}
+use mathlib.Core.Bool.{Bool, true, false}
+use denote.Ref.{now}
+use lib.Dec.{ltb}
+use lib.ListN.{length}
+use Rattle.tables.specs.Table.{choose}
+use Rattle.answers.specs.declared.Refusal.{Refusal}
+use Rattle.rule.specs.declared.operation.Operation.{Operation}
+use Rattle.rule.specs.declared.operation.Byte.{Byte}
+use Rattle.rule.specs.declared.situation.Situation.{Situation}
+use Rattle.rule.specs.declared.way.Way.{Way}
+use Rattle.rule.specs.Operation.{byteIs}
+use Rattle.rule.specs.Pairs.{Model, fenceTable}
+use Rattle.rule.specs.Situation.{asks}
+use Rattle.runs.specs.declared.Move.{Move}
+use Rattle.runs.specs.Bytes.{judgedAs, good, bad}
+use Rattle.runs.specs.Moves.{moved, movedAs, asked, side}
+use borrow.Author.Needs.{needs}
+use Rattle.runs.proofs.advance.Statement.{statement}
+use Rattle.runs.proofs.advance.Tie as tie
+
+read-byte-requires : tie.Need-read-byte-requires
+read-byte-requires c κs = search needs
+
+enum-told : tie.Need-enum-told
+enum-told c = search needs
+
+enum-known-read : tie.Need-enum-known-read
+enum-known-read c = search needs
+
+enum-known-operation : tie.Need-enum-known-operation
+enum-known-operation c = search needs
+
+access-requires : tie.Need-access-requires
+access-requires c κs = search needs
+
+enum-known-operation-2 : tie.Need-enum-known-operation-2
+enum-known-operation-2 c = search needs
+
+ask-requires : tie.Need-ask-requires
+ask-requires c κs = search needs
+
+-- what a byte does, once it is known what it is
+by-byte : (way : Way) (up target : Model) (s : Situation) (at b : ℕ) {x : Byte} → byteIs b ≡ x
+    → moved way up target s at b ≡ movedAs way up target s at (judgedAs (length (up .fences)) at x)
+by-byte way up target s at b e = ap (λ (x : Byte). movedAs way up target s at (judgedAs (length (up .fences)) at x)) e
+
+-- a fence that the upstream model has asks, and one that it has not is refused
+fence-asks : (way : Way) (up target : Model) (s : Situation) (at f : ℕ)
+    → movedAs way up target s at (judgedAs (length (up .fences)) at (Byte.Is (Operation.Fence f))) ≡ asked (up .fences) s at f
+fence-asks way up target s at f = tested (ltb f (length (up .fences)))
+  where
+    tested : (t : Bool) → movedAs way up target s at (choose t (good (Operation.Fence f)) (bad (Refusal.NoSuchFence at)))
+        ≡ choose t (Move.Silent (asks (fenceTable up f) s)) (Move.Refused (Refusal.NoSuchFence at))
+    tested true = refl
+    tested false = refl
+
+returns : tie.Need-returns
+returns c =
+    let a = c .before .before .before .before .before .args in
+    sym (by-byte (a .shim .way) (side (a .shim .upstream) (now (a .fences))) (side (a .shim .target) (now (a .targets))) (a .situation) (a .at) (a .byte) (sym (c .before .before .read-byte .ensures) ∙ c .enum-told .given .1))
+
+returns-2 : tie.Need-returns-2
+returns-2 c =
+    let o = c .before .before .before .before .before in
+    let a = o .before .before .before .before .before .args in
+    c .access .ensures
+    ∙ sym (by-byte (a .shim .way) (side (a .shim .upstream) (now (a .fences))) (side (a .shim .target) (now (a .targets))) (a .situation) (a .at) (a .byte)
+    (sym (o .before .before .read-byte .ensures) ∙ o .read .given .1 ∙ ap Byte.Is (c .before .before .operation .given .1)))
+
+returns-3 : tie.Need-returns-3
+returns-3 c =
+    let o = c .before .before .before .before .before in
+    let a = o .before .before .before .before .before .args in
+    c .ask .ensures
+    ∙ sym (by-byte (a .shim .way) (side (a .shim .upstream) (now (a .fences))) (side (a .shim .target) (now (a .targets))) (a .situation) (a .at) (a .byte)
+    (sym (o .before .before .read-byte .ensures) ∙ o .read .given .1 ∙ ap Byte.Is (c .before .before .operation2 .given .1))
+    ∙ fence-asks (a .shim .way) (side (a .shim .upstream) (now (a .fences))) (side (a .shim .target) (now (a .targets))) (a .situation) (a .at) _)
+
+pub advance-spec : {M : Type 1} → statement M
+advance-spec =
+    tie.close
+    (tie.spec
+    read-byte-requires
+    enum-told
+    enum-known-read
+    enum-known-operation
+    access-requires
+    enum-known-operation-2
+    ask-requires
+    returns
+    returns-2
+    returns-3)

@@ -1,0 +1,317 @@
+// The direct run: two model texts, a way, a stream and a buffer.
+ghost use mathlib.Core.Path.{_≡_};
+ghost use Prim.Native.Nat.{_+_, _≤_, _<_};
+ghost use lib.ListN.{length, take};
+ghost use Rattle.rule.specs.Situation.{fresh, stepped};
+ghost use Rattle.rule.specs.Operation.{byteIs};
+ghost use Rattle.runs.specs.Bytes.{isFence, fenceBytes};
+ghost use Rattle.runs.specs.Call.{wayOf, modelOf, Whole, onStream, onto, under, outcome, answerOf, bufferOf};
+ghost use Rattle.runs.specs.Moves.{moved, moves, turned, laid, side, movedBy, asked, given, Fits, Ends};
+ghost use Rattle.runs.specs.Bytes.{direct};
+use answers::Answer;
+use answers::Refusal;
+use models::model::Model;
+use models::model::Verdict;
+use rule::operation::Byte;
+use rule::operation::Kind;
+use rule::operation::Operation;
+use rule::situation::Situation;
+use rule::way::Step;
+use rule::way::Way;
+use tables::table::Table;
+
+// What a way number names.
+pub enum WayRead {
+    Is(Way),
+    Nothing,
+}
+
+// What stays the same through a run, but for the fences' tables: the way and the two defaults.
+pub struct Shim {
+    pub way: Way,
+    pub upstream: Table,
+    pub target: Table,
+}
+
+// What one byte of a stream does: it is passed over, put out with nothing or with a fence before it, or refused.
+pub enum Move {
+    Silent(Situation),
+    Plain(Situation),
+    Fenced(usize, Situation),
+    Refused(Refusal),
+}
+
+// How far a run has come: the situation, and how many bytes are put out.
+pub struct Progress {
+    pub situation: Situation,
+    pub written: usize,
+}
+
+pub enum Turn {
+    On(Progress),
+    Stop(Refusal),
+}
+
+// How a run of a stream ends: so many bytes are put out, or it is refused.
+pub enum Ended {
+    Done(usize),
+    Refused(Refusal),
+}
+
+pub fn way_of(number: u64) -> WayRead
+    ensures { λ r. ⌜ r ≡ wayOf number ⌝ }
+{
+    match number {
+        0 => WayRead::Is(Way::Sparing),
+        1 => WayRead::Is(Way::Full),
+        _ => WayRead::Nothing,
+    }
+}
+
+// How many of these bytes are fences.
+pub fn fences_in(bytes: &[u8]) -> usize
+    ensures { λ r. ⌜ r ≡ fenceBytes (now (bytes .entry)) ⌝ }
+{
+    let mut n = 0;
+    let mut i = 0;
+    while i < bytes.len() {
+        n = n + one_if_fence(bytes[i]);
+        i += 1;
+    }
+    n
+}
+
+fn one_if_fence(byte: u8) -> usize
+    ensures { λ r. ⌜ (r ≡ isFence (byteIs byte)) × (r ≤ 1) ⌝ }
+{
+    let read = rule::operation::read_byte(byte);
+    match read {
+        Byte::Nothing => 0,
+        Byte::Is(operation) => match operation {
+            Operation::Access(_) => 0,
+            Operation::Fence(_) => 1,
+        },
+    }
+}
+
+// What an access does, at its index.
+fn access<'a>(shim: Shim, targets: &'a [u64], situation: Situation, at: usize, kind: Kind) -> Move
+    ensures { λ r. ⌜ r ≡ movedBy at (stepped (shim .way) (shim .upstream) (side (shim .target) (now (targets .entry))) situation kind) ⌝ }
+{
+    let way = shim.way;
+    let step = rule::way::take(way, shim.upstream, shim.target, targets, situation, kind);
+    match step {
+        Step::Plain(next) => Move::Plain(next),
+        Step::Fenced(g, next) => Move::Fenced(g, next),
+        Step::Refused => Move::Refused(Refusal::NoFenceWillDo(at)),
+    }
+}
+
+// What an upstream fence does, at its index.
+fn ask(fences: &[u64], situation: Situation, at: usize, number: usize) -> Move
+    ensures { λ r. ⌜ r ≡ asked (now (fences .entry)) situation at number ⌝ }
+{
+    if number < fences.len() {
+        Move::Silent(situation.asks(rule::way::fence_table(fences, number)))
+    } else {
+        Move::Refused(Refusal::NoSuchFence(at))
+    }
+}
+
+// What a byte does, at its index.
+fn advance<'a>(
+    shim: Shim,
+    fences: &'a [u64],
+    targets: &'a [u64],
+    situation: Situation,
+    at: usize,
+    byte: u8,
+) -> Move
+    ensures { λ r. ⌜ r ≡ moved (shim .way) (side (shim .upstream) (now (fences .entry))) (side (shim .target) (now (targets .entry))) situation at byte ⌝ }
+{
+    let read = rule::operation::read_byte(byte);
+    match read {
+        Byte::Nothing => Move::Refused(Refusal::NoOperation(at)),
+        Byte::Is(operation) => match operation {
+            Operation::Access(kind) => access(shim, targets, situation, at, kind),
+            Operation::Fence(number) => ask(fences, situation, at, number),
+        },
+    }
+}
+
+// Lays what a move puts out into the buffer, behind what is there.
+fn lay(step: Move, byte: u8, written: usize, buffer: &mut [u8]) -> Turn
+    requires { ⌜ written + 1 < length (now buffer) ⌝ }
+    ensures answer { λ r. ⌜ r ≡ turned step written ⌝ }
+    ensures buffer { λ _. ⌜ now (buffer .exit) ≡ laid step byte written (now (buffer .entry)) ⌝ }
+{
+    match step {
+        Move::Silent(next) => Turn::On(Progress {
+            situation: next,
+            written,
+        }),
+        Move::Plain(next) => {
+            buffer[written] = byte;
+            Turn::On(Progress {
+                situation: next,
+                written: written + 1,
+            })
+        }
+        Move::Fenced(g, next) => {
+            buffer[written] = rule::operation::byte_of(Operation::Fence(g));
+            buffer[written + 1] = byte;
+            Turn::On(Progress {
+                situation: next,
+                written: written + 2,
+            })
+        }
+        Move::Refused(why) => Turn::Stop(why),
+    }
+}
+
+// Runs the stream from the fresh situation, into a buffer that holds two bytes for each operation.
+fn run_stream<'a>(
+    shim: Shim,
+    fences: &'a [u64],
+    targets: &'a [u64],
+    stream: &'a [u8],
+    buffer: &mut [u8],
+) -> Ended
+    requires { ⌜ (length (now stream) ≤ 4096) × (length (now buffer) ≡ 8192) ⌝ }
+    ensures { λ r. ⌜ Ends (moves (shim .way) (side (shim .upstream) (now (fences .entry))) (side (shim .target) (now (targets .entry))) fresh 0 (now (stream .entry))) r (now (buffer .exit)) ⌝ }
+{
+    let mut situation = Situation::FRESH;
+    let mut written = 0;
+    let mut at = 0;
+    while at < stream.len() {
+        let byte = stream[at];
+        let step = advance(shim, fences, targets, situation, at, byte);
+        let turn = lay(step, byte, written, buffer);
+        match turn {
+            Turn::Stop(why) => return Ended::Refused(why),
+            Turn::On(next) => {
+                situation = next.situation;
+                written = next.written;
+            }
+        }
+        at += 1;
+    }
+    Ended::Done(written)
+}
+
+// Writes out what a run has laid, or passes its refusal on.
+fn finish(ended: Ended, buffer: &[u8], out: &mut [u8]) -> Answer
+    requires { ⌜ Fits ended (now buffer) ⌝ }
+    ensures answer { λ r. ⌜ r ≡ answerOf (given ended (now (buffer .entry))) (length (now (out .entry))) ⌝ }
+    ensures buffer { λ _. ⌜ now (out .exit) ≡ bufferOf (given ended (now (buffer .entry))) (now (out .entry)) ⌝ }
+{
+    match ended {
+        Ended::Done(written) => {
+            let bytes = &buffer[..written];
+            answers::write_out(bytes, fences_in(bytes), 0, out)
+        }
+        Ended::Refused(why) => Answer::Refused(why),
+    }
+}
+
+// The run of a stream within its limit. It owns the buffer that the run is laid into, so that a refusal writes nothing.
+fn run_within<'a>(
+    shim: Shim,
+    fences: &'a [u64],
+    targets: &'a [u64],
+    stream: &'a [u8],
+    out: &mut [u8],
+) -> Answer
+    requires { ⌜ length (now stream) ≤ 4096 ⌝ }
+    ensures answer { λ r. ⌜ r ≡ answerOf (direct (shim .way) (side (shim .upstream) (now (fences .entry))) (side (shim .target) (now (targets .entry))) (now (stream .entry))) (length (now (out .entry))) ⌝ }
+    ensures buffer { λ _. ⌜ now (out .exit) ≡ bufferOf (direct (shim .way) (side (shim .upstream) (now (fences .entry))) (side (shim .target) (now (targets .entry))) (now (stream .entry))) (now (out .entry)) ⌝ }
+{
+    let mut buffer = [0u8; 8192];
+    let ended = run_stream(shim, fences, targets, stream, &mut buffer);
+    finish(ended, &buffer, out)
+}
+
+// The run over two models that were read.
+fn run_models(way: Way, upstream: Model, target: Model, stream: &[u8], out: &mut [u8]) -> Answer
+    requires { ⌜ Whole upstream × Whole target ⌝ }
+    ensures answer { λ r. ⌜ r ≡ answerOf (onStream (now (stream .entry)) (direct way (modelOf upstream) (modelOf target) (now (stream .entry)))) (length (now (out .entry))) ⌝ }
+    ensures buffer { λ _. ⌜ now (out .exit) ≡ bufferOf (onStream (now (stream .entry)) (direct way (modelOf upstream) (modelOf target) (now (stream .entry)))) (now (out .entry)) ⌝ }
+{
+    if 4096 < stream.len() {
+        return Answer::Refused(Refusal::OverLimit);
+    }
+    let fences = upstream.tables;
+    let n = upstream.fences;
+    let targets = target.tables;
+    let k = target.fences;
+    let defaults = upstream.ppo;
+    let offered = target.ppo;
+    let shim = Shim {
+        way,
+        upstream: defaults,
+        target: offered,
+    };
+    run_within(shim, &fences[..n], &targets[..k], stream, out)
+}
+
+// The run onto a target's text, with the upstream model read.
+fn run_onto<'a>(
+    way: Way,
+    upstream: Model,
+    target: &'a [u8],
+    stream: &'a [u8],
+    out: &mut [u8],
+) -> Answer
+    requires { ⌜ Whole upstream ⌝ }
+    ensures answer { λ r. ⌜ r ≡ answerOf (onto way (modelOf upstream) (now (target .entry)) (now (stream .entry))) (length (now (out .entry))) ⌝ }
+    ensures buffer { λ _. ⌜ now (out .exit) ≡ bufferOf (onto way (modelOf upstream) (now (target .entry)) (now (stream .entry))) (now (out .entry)) ⌝ }
+{
+    let reading = models::reader::read(target);
+    let verdict = reading.verdict;
+    match verdict {
+        Verdict::Refused(why) => Answer::Refused(why),
+        Verdict::Accepted => {
+            let model = reading.model;
+            run_models(way, upstream, model, stream, out)
+        }
+    }
+}
+
+fn run_under<'a>(
+    way: Way,
+    upstream: &'a [u8],
+    target: &'a [u8],
+    stream: &'a [u8],
+    out: &mut [u8],
+) -> Answer
+    ensures answer { λ r. ⌜ r ≡ answerOf (under way (now (upstream .entry)) (now (target .entry)) (now (stream .entry))) (length (now (out .entry))) ⌝ }
+    ensures buffer { λ _. ⌜ now (out .exit) ≡ bufferOf (under way (now (upstream .entry)) (now (target .entry)) (now (stream .entry))) (now (out .entry)) ⌝ }
+{
+    let reading = models::reader::read(upstream);
+    let verdict = reading.verdict;
+    match verdict {
+        Verdict::Refused(why) => Answer::Refused(why),
+        Verdict::Accepted => {
+            let model = reading.model;
+            run_onto(way, model, target, stream, out)
+        }
+    }
+}
+
+// The direct run of a stream: two model texts, a way by its number, the stream, and the buffer that gets the output.
+pub fn run<'a>(
+    way: u64,
+    upstream: &'a [u8],
+    target: &'a [u8],
+    stream: &'a [u8],
+    out: &mut [u8],
+) -> Answer
+    ensures answer { λ r. ⌜ r ≡ answerOf (outcome way (now (upstream .entry)) (now (target .entry)) (now (stream .entry))) (length (now (out .entry))) ⌝ }
+    ensures buffer { λ _. ⌜ now (out .exit) ≡ bufferOf (outcome way (now (upstream .entry)) (now (target .entry)) (now (stream .entry))) (now (out .entry)) ⌝ }
+{
+    let read = way_of(way);
+    match read {
+        WayRead::Nothing => Answer::Refused(Refusal::OutOfRange),
+        WayRead::Is(is) => run_under(is, upstream, target, stream, out),
+    }
+}
