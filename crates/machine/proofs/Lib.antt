@@ -10,3 +10,4 @@ pub mod Letters
 pub mod Breadth
 pub mod Finish
 pub mod Zeros
+pub mod Unique
