@@ -30,7 +30,7 @@ takes-low : (way : Way) (f : ℕ → Bool) (n g : ℕ) → Takes way f n g → g
 takes-low Way.Sparing f n g h = h .0
 takes-low Way.Full f n g h = omega (arith, h .0)
 
-choice-low : (way : Way) (fences : List ℕ) (p : Table) (g : ℕ) → choiceOf way fences p ≡ Choice.Fence g → g < length fences
+pub choice-low : (way : Way) (fences : List ℕ) (p : Table) (g : ℕ) → choiceOf way fences p ≡ Choice.Fence g → g < length fences
 choice-low way fences p g e = look (atLeast none p) refl
   where
     look : (b : Bool) → atLeast none p ≡ b → g < length fences

@@ -11,3 +11,4 @@ pub mod Breadth
 pub mod Finish
 pub mod Zeros
 pub mod Unique
+pub mod Speaking

@@ -5,3 +5,4 @@ pub mod Rows
 pub mod Shim
 pub mod Explore
 pub mod Generated
+pub mod Spoken
