@@ -12,3 +12,4 @@ pub mod Finish
 pub mod Zeros
 pub mod Unique
 pub mod Speaking
+pub mod Situated
