@@ -13,3 +13,5 @@ pub mod Zeros
 pub mod Unique
 pub mod Speaking
 pub mod Situated
+pub mod Counting
+pub mod Theorems

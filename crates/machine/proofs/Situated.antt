@@ -1,7 +1,7 @@
 -- Where the rule's machine arrives is the situation of 01, and what it puts out tells its fence bytes. Assumes nothing.
 use Prim.Native.Nat.{ℕ, _-_, _≤_, _<_}
 use mathlib.Core.Path.{_≡_, refl, sym, _∙_, ap, ap₂}
-use mathlib.Core.Logic.{_⊎_, inl, inr}
+use mathlib.Core.Logic.{inl, inr}
 use mathlib.Core.List.{List, [], _∷_, _++_, append-assoc, append-nil}
 use native.Mathlib.Omega.{arith}
 use native.Mathlib.Decide.{decLt}
@@ -13,15 +13,15 @@ use Rattle.rule.specs.declared.way.Way.{Way}
 use Rattle.rule.specs.declared.way.Choice.{Choice}
 use Rattle.tables.specs.Table.{table}
 use Rattle.rule.specs.Stream.{Stream, access, fence, accesses}
-use Rattle.rule.specs.Pairs.{Model, fenceTable}
-use Rattle.rule.specs.Rule.{rule, Ran, done, refused as stopped, behind, onward, run}
-use Rattle.rule.specs.Situation.{asks, offers, joins, pending, choiceOf, stepOf, fresh, situation}
+use Rattle.rule.specs.Pairs.{Model}
+use Rattle.rule.specs.Rule.{Ran, done, refused as stopped, behind, onward, run}
+use Rattle.rule.specs.Situation.{joins, pending, choiceOf, stepOf, situation}
 use Rattle.rule.proofs.Choices.{goes-on}
 use Rattle.rule.proofs.Streams.{same-access, same-fence}
 use Rattle.rule.proofs.Situations.{asks-step, offers-step, joins-step, chosen-rule}
-use Rattle.mealy.specs.Runs.{Answer, refused, taken, Machine, go, ends, reached}
+use Rattle.mealy.specs.Runs.{Answer, taken, go, ends, reached}
 use Rattle.mealy.proofs.Runs.{untaken}
-use Rattle.machine.specs.Shim.{kindOf, operationOf, lettersOf, stepAnswer, letterAnswer, shim}
+use Rattle.machine.specs.Shim.{kindOf, lettersOf, stepAnswer, letterAnswer, shim}
 use Rattle.machine.specs.Explore.{Output}
 use Rattle.machine.specs.Spoken.{Letters, operations, puts}
 use Rattle.machine.proofs.Letters.{shim-step, letter-output}

@@ -1,25 +1,23 @@
 -- Runs as streams of operations: the rule's machine gives the rule's run, and what answers like the rule goes on like it. Assumes nothing.
-use Prim.Native.Nat.{ℕ, suc, _+_, _-_, _≤_, _<_}
+use Prim.Native.Nat.{ℕ, suc, _+_, _≤_, _<_}
 use mathlib.Core.Path.{_≡_, refl, sym, _∙_, ap, ap₂}
-use mathlib.Core.Logic.{_⊎_, inl, inr}
-use mathlib.Core.List.{List, [], _∷_, _++_, map, append-assoc, append-nil, append-cancel-left}
+use mathlib.Core.List.{List, [], _∷_, _++_, append-assoc, append-nil, append-cancel-left}
 use native.Mathlib.Nat.{suc-add}
 use native.Mathlib.Omega.{arith}
 use native.Mathlib.Decide.{decLt}
 use borrow.Author.Tests.{lt-ltb, le-ltb, ne-eqb}
 use lib.ListN.{length}
 use lib.Dec.{T}
-use Rattle.rule.specs.declared.operation.Operation.{Operation}
 use Rattle.rule.specs.declared.situation.Situation.{Situation}
 use Rattle.rule.specs.declared.way.Way.{Way}
 use Rattle.rule.specs.declared.way.Choice.{Choice}
-use Rattle.rule.specs.Stream.{Stream, access, fence, accesses}
-use Rattle.rule.specs.Pairs.{Model, fenceTable}
+use Rattle.rule.specs.Stream.{Stream, access, fence}
+use Rattle.rule.specs.Pairs.{Model}
 use Rattle.rule.specs.Rule.{Ran, done, refused as stopped, behind, onward, run}
-use Rattle.rule.specs.Situation.{asks, pending, choiceOf, stepOf, resumed, steps, fresh, situation}
+use Rattle.rule.specs.Situation.{pending, choiceOf, stepOf, resumed, steps, fresh}
 use Rattle.rule.proofs.Continued.{follows, then, continued}
 use Rattle.rule.proofs.Theorems.{steps-are-the-rule}
-use Rattle.mealy.specs.Runs.{Answer, refused, taken, Machine, Told, refusal, output, after, tell, told, go, ends, heard, AcceptedFrom, Accepted, reached, Same}
+use Rattle.mealy.specs.Runs.{Answer, refused, taken, Machine, Told, refusal, output, after, tell, told, go, ends, heard, AcceptedFrom, reached, Same}
 use Rattle.mealy.proofs.Runs.{untaken, first-taken}
 use Rattle.machine.specs.Shim.{kindOf, operationOf, lettersOf, stepAnswer, letterAnswer, shim}
 use Rattle.machine.specs.Spoken.{Letters, operations, puts, spelt, spelling, say, spoken, AnswersLikeTheRule}

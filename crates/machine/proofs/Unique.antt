@@ -44,11 +44,12 @@ same-word targets states v w few (passing p n) (passing q o) e =
     let low : v % 256 ≡ w % 256 = cc in
     omega arith
 
-module _ (m : Mealy Situation ℕ) (way : Way) (ups targets : ℕ) (letters : m .letters ≡ 4 + ups) (few : targets ≤ 16) (rows : List ℕ) where
-  too-few : {k : ℕ} {row : ℕ → ℕ → Answer ℕ ℕ} → Described m (Same m) k row → k ≤ 255 → More m (Same m) 255 → ⊥
-  too-few d low more =
-      not-more m (Same m) (alike m) 255 (arrivals-at-most m (Same m) (alike m) (d .first) 255 (omega (arith, d .count))) more
+-- 255 states at most are not more than 255
+pub too-few : (m : Mealy Situation ℕ) {k : ℕ} {row : ℕ → ℕ → Answer ℕ ℕ} → Described m (Same m) k row → k ≤ 255 → More m (Same m) 255 → ⊥
+too-few m d low more =
+    not-more m (Same m) (alike m) 255 (arrivals-at-most m (Same m) (alike m) (d .first) 255 (omega (arith, d .count))) more
 
+module _ (m : Mealy Situation ℕ) (way : Way) (ups targets : ℕ) (letters : m .letters ≡ 4 + ups) (few : targets ≤ 16) (rows : List ℕ) where
   too-short : {x : Machine} {rows₁ rows₂ : List ℕ} → Making m way ups targets rows x rows₁ → Roomless m rows rows₂ → ⊥
   too-short {x} {rows₁} b c =
       omega (arith, described-unique m (Same m) (alike m) (b .states) (c .described) .0, b .room, c .short)
@@ -91,19 +92,19 @@ module _ (m : Mealy Situation ℕ) (way : Way) (ups targets : ℕ) (letters : m 
       → (r ≡ s) × (rows₁ ≡ rows₂)
   built-unique (Outcome.Made x) (Outcome.Made y) b c = (ap Outcome.Made (machine-one b c), rows-one b c)
   built-unique (Outcome.Made x) Outcome.Situations b c = absurd (not-more m _≡_ equal 4096 (b .few-situations) (c .many))
-  built-unique (Outcome.Made x) Outcome.States b c = absurd (too-few (b .states) (b .few-states) (c .many))
+  built-unique (Outcome.Made x) Outcome.States b c = absurd (too-few m (b .states) (b .few-states) (c .many))
   built-unique (Outcome.Made x) Outcome.Room b c = absurd (too-short b c)
   built-unique Outcome.Situations (Outcome.Made y) b c = absurd (not-more m _≡_ equal 4096 (c .few-situations) (b .many))
   built-unique Outcome.Situations Outcome.Situations b c = (refl, b .same ∙ sym (c .same))
   built-unique Outcome.Situations Outcome.States b c = absurd (not-more m _≡_ equal 4096 (c .few-situations) (b .many))
   built-unique Outcome.Situations Outcome.Room b c = absurd (not-more m _≡_ equal 4096 (c .few-situations) (b .many))
-  built-unique Outcome.States (Outcome.Made y) b c = absurd (too-few (c .states) (c .few-states) (b .many))
+  built-unique Outcome.States (Outcome.Made y) b c = absurd (too-few m (c .states) (c .few-states) (b .many))
   built-unique Outcome.States Outcome.Situations b c = absurd (not-more m _≡_ equal 4096 (b .few-situations) (c .many))
   built-unique Outcome.States Outcome.States b c = (refl, b .same ∙ sym (c .same))
-  built-unique Outcome.States Outcome.Room b c = absurd (too-few (c .described) (c .few-states) (b .many))
+  built-unique Outcome.States Outcome.Room b c = absurd (too-few m (c .described) (c .few-states) (b .many))
   built-unique Outcome.Room (Outcome.Made y) b c = absurd (too-short c b)
   built-unique Outcome.Room Outcome.Situations b c = absurd (not-more m _≡_ equal 4096 (b .few-situations) (c .many))
-  built-unique Outcome.Room Outcome.States b c = absurd (too-few (b .described) (b .few-states) (c .many))
+  built-unique Outcome.Room Outcome.States b c = absurd (too-few m (b .described) (b .few-states) (c .many))
   built-unique Outcome.Room Outcome.Room b c = (refl, b .same ∙ sym (c .same))
 
 -- Two outcomes with their rows that generating allows for the same models, way and rows are one.

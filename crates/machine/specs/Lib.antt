@@ -6,3 +6,4 @@ pub mod Shim
 pub mod Explore
 pub mod Generated
 pub mod Spoken
+pub mod Counted

@@ -98,7 +98,7 @@ module _ {S O : Type 0} (m : Machine S O) (R : S → S → Type 0) {k : ℕ} {ro
     pub continues-from : (i : ℕ) → i < k → (s : S) → R (arrival m (d .streams) i) s → (w : List ℕ) → told machine i w ≡ told m s w
     continues-from i p s r w = run-from i p w ∙ finer _ _ r .same w
 
-ends-within : {O : Type 0} (n : Machine ℕ O) (k : ℕ) → Closed n k → (i : ℕ) → i < k → (w : List ℕ) → ends n i w < k
+pub ends-within : {O : Type 0} (n : Machine ℕ O) (k : ℕ) → Closed n k → (i : ℕ) → i < k → (w : List ℕ) → ends n i w < k
 ends-within n k c i p [] = p
 ends-within {O} n k c i p (a ∷ w) = look (λ j q. ends-within n k c j q w) (n .step i a) refl
   where
