@@ -65,24 +65,28 @@ fn built_in_pair(way: u64, upstream: u64, target: u64) {
     let from = one.model;
     let onto = two.model;
     let mut rows = [0u16; WORDS];
+    io::write_all(1, b" ");
     print_outcome(generate(way, from, onto, &mut rows));
 }
 
 fn built_in_row(way: u64, upstream: u64) {
     let mut target: u64 = 0;
     while target < 16 {
-        io::write_all(1, b" ");
         built_in_pair(way, upstream, target);
         target += 1;
     }
+}
+
+fn built_in_line(way: u64, upstream: u64) {
+    io::print_decimal(1, upstream);
+    built_in_row(way, upstream);
     io::write_all(1, b"\n");
 }
 
 fn built_ins(way: u64) {
     let mut upstream: u64 = 0;
     while upstream < 16 {
-        io::print_decimal(1, upstream);
-        built_in_row(way, upstream);
+        built_in_line(way, upstream);
         upstream += 1;
     }
 }
