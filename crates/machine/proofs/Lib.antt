@@ -1,0 +1,17 @@
+pub mod Links
+pub mod Filled
+pub mod Naming
+pub mod Keys
+pub mod Rounds
+pub mod Entries
+pub mod Firsts
+pub mod Exploration
+pub mod Letters
+pub mod Breadth
+pub mod Finish
+pub mod Zeros
+pub mod Unique
+pub mod Speaking
+pub mod Situated
+pub mod Counting
+pub mod Theorems

@@ -1,0 +1,39 @@
+-- Counting on the rule alone. 01, "The machine": "Two accepted streams lead to the same state exactly when every continuation gets the same further
+-- output and refusals, length limits set aside." Its table of refusals: 8, "the reachable situations exceed 4,096"; 9, "the states exceed 255".
+use Prim.Native.Nat.{ℕ, _<_}
+use mathlib.Core.Path.{_≡_}
+use mathlib.Core.List.{List, []}
+use lib.ListN.{length, getD}
+use Rattle.rule.specs.declared.way.Way.{Way}
+use Rattle.rule.specs.Stream.{Stream}
+use Rattle.rule.specs.Pairs.{Model}
+use Rattle.rule.specs.Rule.{done, onward, run}
+use Rattle.rule.specs.Situation.{situation}
+use Rattle.machine.specs.Shim.{lettersOf}
+use Rattle.machine.specs.Spoken.{Letters, operations}
+
+-- two accepted streams, each with its output, are in the same situation
+abbrev pub SameSituation : Model → Model → Stream → Stream → Stream → Stream → Type 0
+SameSituation up target v out w out′ = situation up target v out ≡ situation up target w out′
+
+-- and lead to the same state
+abbrev pub SameState : Way → Model → Model → Stream → Stream → Stream → Stream → Type 0
+SameState way up target v out w out′ =
+    (x : List ℕ) → Letters (lettersOf up) x → onward way up target v out (operations x) ≡ onward way up target w out′ (operations x)
+
+-- more than n accepted streams, no two of which are related
+pub record MoreThan (n : ℕ) (way : Way) (up target : Model) (R : Stream → Stream → Stream → Stream → Type 0) : Type 0 where
+  pub streams : List (List ℕ)
+  pub many : n < length streams
+  pub letters : (i : ℕ) → i < length streams → Letters (lettersOf up) (getD streams i [])
+  pub accepted : (i : ℕ) → i < length streams → (out : Stream) × (run way up target (operations (getD streams i [])) ≡ done out)
+  pub apart : (i j : ℕ) → i < j → j < length streams → (out out′ : Stream) → run way up target (operations (getD streams i [])) ≡ done out
+      → run way up target (operations (getD streams j [])) ≡ done out′
+      → R (operations (getD streams i [])) out (operations (getD streams j [])) out′ → ⊥
+
+-- 8: more than 4,096 situations; 9: more than 255 states
+abbrev pub ManySituations : Way → Model → Model → Type 0
+ManySituations way up target = MoreThan 4096 way up target (SameSituation up target)
+
+abbrev pub ManyStates : Way → Model → Model → Type 0
+ManyStates way up target = MoreThan 255 way up target (SameState way up target)

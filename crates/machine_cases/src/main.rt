@@ -1,0 +1,221 @@
+// Machines: the number of states, or the refusal, of every built-in model on every other, a line for each upstream model, first the sparing way and
+// then the full way; the rows of TSO on ARM, both ways, a line for each state and letter with its fence and the next state; and the models at the
+// limits. How many situations there are is not told: a machine does not hold that number.
+// The stored output comes from the model in `host/model`, which shares nothing with this code: a script asked `shim-model machine` for each pair.
+mod limits;
+
+use machine::machine::Machine;
+use machine::machine::Outcome;
+use models::model::Model;
+use models::model::Verdict;
+use rule::way::Way;
+
+// Room for 255 states.
+const WORDS: usize = 5100;
+
+fn way_of(number: u64) -> Way {
+    if number == 0 { Way::Sparing } else { Way::Full }
+}
+
+fn front(tables: &[u64], n: usize) -> &[u64] {
+    if n <= tables.len() {
+        &tables[..n]
+    } else {
+        tables
+    }
+}
+
+fn generate(way: u64, upstream: Model, target: Model, rows: &mut [u16]) -> Outcome {
+    let ups = upstream.tables;
+    let fences = target.tables;
+    let own = upstream.ppo;
+    let its = target.ppo;
+    let n = upstream.fences;
+    let k = target.fences;
+    machine::generate(
+        way_of(way),
+        own,
+        front(&ups, n),
+        its,
+        front(&fences, k),
+        rows,
+    )
+}
+
+fn print_outcome(outcome: Outcome) {
+    match outcome {
+        Outcome::Made(x) => {
+            io::print_decimal(1, x.states as u64);
+        }
+        Outcome::Situations => {
+            io::write_all(1, b"refused 8");
+        }
+        Outcome::States => {
+            io::write_all(1, b"refused 9");
+        }
+        Outcome::Room => {
+            io::write_all(1, b"refused 7");
+        }
+    }
+}
+
+fn built_in_pair(way: u64, upstream: u64, target: u64) {
+    let one = models::built_ins::built_in(upstream);
+    let two = models::built_ins::built_in(target);
+    let from = one.model;
+    let onto = two.model;
+    let mut rows = [0u16; WORDS];
+    io::write_all(1, b" ");
+    print_outcome(generate(way, from, onto, &mut rows));
+}
+
+fn built_in_row(way: u64, upstream: u64) {
+    let mut target: u64 = 0;
+    while target < 16 {
+        built_in_pair(way, upstream, target);
+        target += 1;
+    }
+}
+
+fn built_in_line(way: u64, upstream: u64) {
+    io::print_decimal(1, upstream);
+    built_in_row(way, upstream);
+    io::write_all(1, b"\n");
+}
+
+fn built_ins(way: u64) {
+    let mut upstream: u64 = 0;
+    while upstream < 16 {
+        built_in_line(way, upstream);
+        upstream += 1;
+    }
+}
+
+fn print_letter(letter: usize) {
+    match letter {
+        0 => {
+            io::write_all(1, b" l ");
+        }
+        1 => {
+            io::write_all(1, b" L ");
+        }
+        2 => {
+            io::write_all(1, b" s ");
+        }
+        3 => {
+            io::write_all(1, b" S ");
+        }
+        _ => {
+            io::write_all(1, b" ");
+            io::print_decimal(1, (letter - 4) as u64);
+            io::write_all(1, b" ");
+        }
+    }
+}
+
+fn print_word(word: u64) {
+    let fence = word / 256;
+    if fence == 255 {
+        io::write_all(1, b"-");
+    } else {
+        io::print_decimal(1, fence);
+    }
+    io::write_all(1, b" ");
+    io::print_decimal(1, word % 256);
+    io::write_all(1, b"\n");
+}
+
+fn word_at(rows: &[u16], state: usize, letter: usize) -> u64 {
+    if state < 255 {
+        if letter < 20 {
+            let at = state * 20 + letter;
+            if at < rows.len() {
+                return wide(rows[at]);
+            }
+        }
+    }
+    0
+}
+
+fn wide(word: u16) -> u64 {
+    word as u64
+}
+
+fn letters_of(x: Machine) -> usize {
+    let ups = x.ups;
+    if ups < 16 { 4 + ups } else { 20 }
+}
+
+fn print_state(rows: &[u16], state: usize, letters: usize) {
+    let mut letter: usize = 0;
+    while letter < letters {
+        io::print_decimal(1, state as u64);
+        print_letter(letter);
+        print_word(word_at(rows, state, letter));
+        letter += 1;
+    }
+}
+
+fn print_states(rows: &[u16], states: usize, letters: usize) {
+    let mut state: usize = 0;
+    while state < states {
+        print_state(rows, state, letters);
+        state += 1;
+    }
+}
+
+fn tso_on_arm(way: u64) {
+    let one = models::built_ins::built_in(1);
+    let two = models::built_ins::built_in(15);
+    let from = one.model;
+    let onto = two.model;
+    let mut rows = [0u16; WORDS];
+    let outcome = generate(way, from, onto, &mut rows);
+    match outcome {
+        Outcome::Made(x) => {
+            print_states(&rows, x.states, letters_of(x));
+        }
+        _ => {
+            print_outcome(outcome);
+        }
+    }
+}
+
+fn try_models(way: u64, upstream: Model, target: Model) {
+    let mut rows = [0u16; WORDS];
+    io::write_all(1, b", ");
+    print_outcome(generate(way, upstream, target, &mut rows));
+}
+
+fn try_pair<'a>(name: &'a [u8], upstream: &'a [u8], target: &'a [u8]) {
+    let one = models::reader::read(upstream);
+    let two = models::reader::read(target);
+    let verdict = one.verdict;
+    let other = two.verdict;
+    io::write_all(1, name);
+    match verdict {
+        Verdict::Accepted => match other {
+            Verdict::Accepted => {
+                let from = one.model;
+                let onto = two.model;
+                try_models(0, from, onto);
+                try_models(1, from, onto);
+                io::write_all(1, b"\n");
+            }
+            Verdict::Refused(_) => {
+                io::write_all(1, b": the target text is refused\n");
+            }
+        },
+        Verdict::Refused(_) => {
+            io::write_all(1, b": the upstream text is refused\n");
+        }
+    }
+}
+
+fn main() {
+    built_ins(0);
+    built_ins(1);
+    tso_on_arm(0);
+    tso_on_arm(1);
+    limits::limits();
+}
