@@ -11,7 +11,9 @@ use Rattle.tables.specs.declared.table.Column.{Column}
 use Rattle.tables.specs.declared.table.Table.{Table}
 use Rattle.tables.specs.declared.table.Merge.{Merge}
 use Rattle.tables.specs.Cells.{digit, packed}
-use Rattle.tables.specs.Table.{rowNumber, columnNumber, cells, place, cell, choose, rowOf, columnOf, table, Clean, excess, merged, mergedTable, atLeast, singleTable}
+use Rattle.tables.specs.Table.{rowNumber, columnNumber, cells, place, cell, choose, rowOf, columnOf, table, Clean, excess, merged, mergedTable, atLeast, singleTable, levelsTable}
+use mathlib.Core.List.{List}
+use lib.ListN.{getD}
 use Rattle.tables.proofs.Excess.{excess-none, excess-below, excess-lifts}
 use Rattle.tables.proofs.Packed.{packed-below, packed-cong, digit-packed, packed-own, single-packed}
 
@@ -19,13 +21,13 @@ use Rattle.tables.proofs.Packed.{packed-below, packed-cong, digit-packe
 pub cell-below : (t : Table) (r : Row) (c : Column) → cell t r c < 4
 cell-below t r c = mod-lt _ (omega arith)
 
-row-below : (r : Row) → rowNumber r < 4
+pub row-below : (r : Row) → rowNumber r < 4
 row-below Row.Cld = lit< tt
 row-below Row.Cst = lit< tt
 row-below Row.Ld = lit< tt
 row-below Row.St = lit< tt
 
-column-below : (c : Column) → columnNumber c < 4
+pub column-below : (c : Column) → columnNumber c < 4
 column-below Column.Ld = lit< tt
 column-below Column.Cld = lit< tt
 column-below Column.St = lit< tt
@@ -171,3 +173,10 @@ single-place r c s =
     (sym (single-packed s (place r c) cells (omega (arith, row-below r, column-below c)))
     ∙ packed-cong (λ (j : ℕ). choose (eqb j (place r c)) s 0) _ cells
     (λ i l. ap (λ (k : ℕ). choose (eqb k (place r c)) s 0) (sym (place-own i l))))
+
+-- levels packed place by place are their table
+pub levels-places : (levels : List ℕ) → record { packed = packed (λ (i : ℕ). getD levels i 0) cells } ≡ levelsTable levels
+unfolding levelsTable table
+levels-places levels =
+    ap (λ (n : ℕ). record { packed = n })
+    (packed-cong (λ (i : ℕ). getD levels i 0) _ cells (λ i l. ap (λ (k : ℕ). getD levels k 0) (sym (place-own i l))))

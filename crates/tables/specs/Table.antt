@@ -5,6 +5,8 @@
 use Prim.Native.Nat.{ℕ, _+_, _*_, _/_, _%_, _^_, _<_, max, min}
 use mathlib.Core.Bool.{Bool, true, false}
 use mathlib.Core.Path.{_≡_}
+use mathlib.Core.List.{List}
+use lib.ListN.{getD}
 use lib.Dec.{ltb, eqb}
 use Rattle.tables.specs.declared.table.Row.{Row}
 use Rattle.tables.specs.declared.table.Column.{Column}
@@ -91,3 +93,7 @@ columnTable c = table (λ (r : Row) (d : Column). choose (eqb (columnNumber d) (
 -- one cell, `-` elsewhere
 unfoldable pub singleTable : Row → Column → ℕ → Table
 singleTable r c s = table (λ (q : Row) (d : Column). choose (eqb (place q d) (place r c)) s 0)
+
+-- sixteen levels, row after row
+unfoldable pub levelsTable : List ℕ → Table
+levelsTable levels = table (λ (r : Row) (c : Column). getD levels (place r c) 0)

@@ -3,7 +3,7 @@
 ghost use mathlib.Core.Path.{_≡_};
 ghost use Prim.Native.Nat.{ℕ, _+_, _*_, _^_, _<_};
 ghost use Rattle.tables.specs.Cells.{digit, packed};
-ghost use Rattle.tables.specs.Table.{rowNumber, columnNumber, place, cells, cell, higher, lower, exceeding, atLeast, rowTable, columnTable, singleTable, merged, mergedTable};
+ghost use Rattle.tables.specs.Table.{rowNumber, columnNumber, place, cells, cell, higher, lower, exceeding, atLeast, rowTable, columnTable, singleTable, levelsTable, merged, mergedTable};
 use crate::strength::Strength;
 
 // The earlier access of a pair, by its kind.
@@ -111,6 +111,20 @@ impl Table {
                 packed: 0xc0c0_c0c0,
             },
         }
+    }
+
+    // The table of sixteen levels, row after row. Of a level above S only what fits a cell is taken.
+    pub fn of_levels(levels: [u8; 16]) -> Table
+        ensures { λ r. ⌜ r ≡ levelsTable levels ⌝ }
+    {
+        let mut t = 0;
+        let mut i = 0;
+        while i < 16 {
+            let level = levels[i] % 4;
+            t = with_digit(t, i as u64, level as u64);
+            i += 1;
+        }
+        Table { packed: t }
     }
 
     // The strength in its cell, `-` elsewhere. Of a level above S only what fits a cell is taken.

@@ -1,0 +1,148 @@
+-- A text of the form, as Form says it, is one that is put together from the parts that the reader follows. Assumes nothing.
+use Prim.Native.Nat.{ℕ, zero, suc, _+_, _≤_, _<_, suc-le-suc, zero-le}
+use mathlib.Core.Path.{_≡_, refl, sym, ap, ap₂, _∙_, subst}
+use mathlib.Core.Bool.{Bool, true, false, not, _&&_}
+use mathlib.Core.List.{List, [], _∷_, _++_, append-assoc, append-nil}
+use mathlib.Core.Logic.{_⊎_, inl, inr}
+use native.Mathlib.Omega.{arith}
+use native.Mathlib.Nat.{le-of-suc-le-suc}
+use lib.Dec.{T, eqb, eqb→eq, eqb-refl}
+use lib.ListN.{length}
+use Rattle.tables.specs.declared.table.Table.{Table}
+use Rattle.tables.specs.Table.{choose, Clean}
+use Rattle.tables.proofs.Laws.{table-clean}
+use Rattle.models.specs.Bytes.{bytes}
+use Rattle.models.specs.Model.{Fence, Description, Each, NameFormed, FenceFormed, Formed}
+use Rattle.models.specs.Text.{tablePart, fenceText, fencesText, textOf}
+use Rattle.models.specs.Form.{Form}
+use Rattle.models.specs.Scan.{cellByte, fits, tablePattern}
+use Rattle.models.specs.Reading.{tableIn}
+use Rattle.models.proofs.Language.{Language, Seq, seq-join, seq-apart}
+use Rattle.models.proofs.Pattern.{Follows}
+use Rattle.models.proofs.NamePart.{Ended}
+use Rattle.models.proofs.Judgement.{EndLine, TablePart, FenceThen, Lines, TextForm}
+use Rattle.models.proofs.TableText.{part-follows, text-of-table}
+
+-- a word: a pattern without `?`
+plain : List ℕ → Bool
+plain [] = true
+plain (p ∷ ps) = not (eqb p 63) && plain ps
+
+unmarked : (q r x y : Bool) → T (not q && r) → choose q x y ≡ y
+unmarked true r x y t = absurd t
+unmarked false r x y t = refl
+
+unmarked-rest : (q r : Bool) → T (not q && r) → T r
+unmarked-rest true r t = absurd t
+unmarked-rest false r t = t
+
+same-word : (ps a : List ℕ) → T (plain ps) → Follows ps a → a ≡ ps
+unfolding plain
+same-word [] [] w f = refl
+same-word [] (b ∷ a) w f = absurd f
+same-word (p ∷ ps) [] w f = absurd f
+same-word (p ∷ ps) (b ∷ a) w f =
+    ap₂ (λ (x : ℕ) (l : List ℕ). x ∷ l) (eqb→eq b p (subst T (unmarked (eqb p 63) (plain ps) (cellByte b) (eqb b p) w) (f .0)))
+    (same-word ps a (unmarked-rest (eqb p 63) (plain ps) w) (f .1))
+
+own-word : (ps : List ℕ) → T (plain ps) → Follows ps ps
+unfolding plain
+own-word [] w = tt
+own-word (p ∷ ps) w = (
+  subst T (sym (unmarked (eqb p 63) (plain ps) (cellByte p) (eqb p p) w)) (eqb-refl p),
+  own-word ps (unmarked-rest (eqb p 63) (plain ps) w),
+)
+
+abbrev Held : (List Fence → List ℕ) → ℕ → List ℕ → Type 0
+Held text n t = (fs : List Fence) × (length fs ≤ n) × Each FenceFormed fs × (t ≡ text fs)
+
+abbrev lineTexts : List Fence → List ℕ
+lineTexts fs = fencesText fs ++ bytes "end\n"
+
+-- a fence's line in front of the others
+front : (f : Fence) (fs : List Fence)
+    → bytes "fence " ++ ((f .name ++ (32 ∷ [])) ++ (tablePart (f .table) ++ lineTexts fs)) ≡ lineTexts (f ∷ fs)
+front f fs =
+    let tail : List ℕ = lineTexts fs in
+    let part : List ℕ = tablePart (f .table) in
+    ap (λ (l : List ℕ). bytes "fence " ++ l) (append-assoc (f .name) (32 ∷ []) (part ++ tail) ∙ sym (append-assoc (f .name) (bytes " " ++ part) tail))
+    ∙ sym (append-assoc (fenceText f) (fencesText fs) (bytes "end\n"))
+
+-- a table's part holds a table
+part-is : (a : List ℕ) → TablePart a → a ≡ tablePart (tableIn a)
+part-is a f = sym (text-of-table a f)
+
+clean-in : (a : List ℕ) → Clean (tableIn a)
+unfolding tableIn
+clean-in a = table-clean _
+
+lines-more : (n : ℕ) (t : List ℕ) → ((s : List ℕ) → Lines n s → Held lineTexts n s) → FenceThen (Lines n) t → Held lineTexts (suc n) t
+unfolding plain
+lines-more n t rest x =
+    let p = seq-apart (Follows (bytes "fence ")) (Seq (Ended 32) (Seq TablePart (Lines n))) t x in
+    let q = seq-apart (Ended 32) (Seq TablePart (Lines n)) (p .1) (p .4) in
+    let r = seq-apart TablePart (Lines n) (q .1) (q .4) in
+    let s = rest (r .1) (r .4) in
+    let f : Fence = record { name = q .3 .0; table = tableIn (r .0) } in (
+      f ∷ s .0,
+      suc-le-suc (s .1),
+      (record { name = q .3 .1; table = clean-in (r .0) }, s .2),
+      p .2
+          ∙ ap₂ (λ (a b : List ℕ). a ++ b) (same-word (bytes "fence ") (p .0) tt (p .3)) (q .2 ∙ ap₂ (λ (a b : List ℕ). a ++ b) (q .3 .2) (r .2 ∙ ap₂ (λ (a b : List ℕ). a ++ b) (part-is (r .0) (r .3)) (s .3)))
+          ∙ front f (s .0),
+    )
+
+lines-to : (n : ℕ) (t : List ℕ) → Lines n t → Held lineTexts n t
+unfolding plain
+lines-to zero t f = ([], omega arith, tt, same-word (bytes "end\n") t tt f)
+lines-to (suc n) t (inr f) = ([], omega arith, tt, same-word (bytes "end\n") t tt f)
+lines-to (suc n) t (inl x) = lines-more n t (lines-to n) x
+
+lines-back : (n : ℕ) (fs : List Fence) → length fs ≤ n → Each FenceFormed fs → Lines n (lineTexts fs)
+unfolding plain
+lines-back zero [] l h = own-word (bytes "end\n") tt
+lines-back (suc n) [] l h = inr (own-word (bytes "end\n") tt)
+lines-back zero (f ∷ fs) l h = absurd (omega arith)
+lines-back (suc n) (f ∷ fs) l h =
+    inl (subst (FenceThen (Lines n)) (front f fs)
+    (seq-join (Follows (bytes "fence ")) (Seq (Ended 32) (Seq TablePart (Lines n))) (bytes "fence ") _ (own-word (bytes "fence ") tt)
+    (seq-join (Ended 32) (Seq TablePart (Lines n)) (f .name ++ (32 ∷ [])) _ (f .name, h .0 .name, refl)
+    (seq-join TablePart (Lines n) (tablePart (f .table)) (lineTexts fs) (part-follows (f .table)) (lines-back n fs (le-of-suc-le-suc l) (h .1))))))
+
+-- the two lines above
+above : (d : Description)
+    → bytes "model " ++ ((d .name ++ (10 ∷ [])) ++ (bytes "ppo " ++ (tablePart (d .ppo) ++ lineTexts (d .fences)))) ≡ textOf d
+above d =
+    let tail : List ℕ = lineTexts (d .fences) in
+    let part : List ℕ = tablePart (d .ppo) in
+    ap (λ (l : List ℕ). bytes "model " ++ l)
+    (append-assoc (d .name) (10 ∷ []) (bytes "ppo " ++ (part ++ tail)) ∙ sym (append-assoc (d .name) (bytes "\n" ++ (bytes "ppo " ++ part)) tail))
+
+pub text-to : (t : List ℕ) → TextForm t → Form t
+unfolding plain
+text-to t x =
+    let p = seq-apart (Follows (bytes "model ")) (Seq (Ended 10) (Seq (Follows (bytes "ppo ")) (Seq TablePart (Lines 16)))) t x in
+    let q = seq-apart (Ended 10) (Seq (Follows (bytes "ppo ")) (Seq TablePart (Lines 16))) (p .1) (p .4) in
+    let r = seq-apart (Follows (bytes "ppo ")) (Seq TablePart (Lines 16)) (q .1) (q .4) in
+    let u = seq-apart TablePart (Lines 16) (r .1) (r .4) in
+    let s = lines-to 16 (u .1) (u .4) in
+    let d : Description = record { name = q .3 .0; ppo = tableIn (u .0); fences = s .0 } in (
+      d,
+      record { name = q .3 .1; ppo = clean-in (u .0); few = s .1; each = s .2 },
+      p .2
+          ∙ ap₂ (λ (a b : List ℕ). a ++ b) (same-word (bytes "model ") (p .0) tt (p .3))
+          (q .2
+          ∙ ap₂ (λ (a b : List ℕ). a ++ b) (q .3 .2)
+          (r .2
+          ∙ ap₂ (λ (a b : List ℕ). a ++ b) (same-word (bytes "ppo ") (r .0) tt (r .3)) (u .2 ∙ ap₂ (λ (a b : List ℕ). a ++ b) (part-is (u .0) (u .3)) (s .3))))
+          ∙ above d,
+    )
+
+pub text-back : (t : List ℕ) → Form t → TextForm t
+unfolding plain
+text-back t (d, h, e) =
+    subst TextForm (above d ∙ sym e)
+    (seq-join (Follows (bytes "model ")) (Seq (Ended 10) (Seq (Follows (bytes "ppo ")) (Seq TablePart (Lines 16)))) (bytes "model ") _ (own-word (bytes "model ") tt)
+    (seq-join (Ended 10) (Seq (Follows (bytes "ppo ")) (Seq TablePart (Lines 16))) (d .name ++ (10 ∷ [])) _ (d .name, h .name, refl)
+    (seq-join (Follows (bytes "ppo ")) (Seq TablePart (Lines 16)) (bytes "ppo ") _ (own-word (bytes "ppo ") tt)
+    (seq-join TablePart (Lines 16) (tablePart (d .ppo)) (lineTexts (d .fences)) (part-follows (d .ppo)) (lines-back 16 (d .fences) (h .few) (h .each))))))

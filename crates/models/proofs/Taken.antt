@@ -1,0 +1,84 @@
+-- What the reader takes out of a text, byte by byte: a name, a table, whether two names are the same. Assumes nothing.
+use Prim.Native.Nat.{ℕ, zero, suc, _+_, _*_, _-_, _/_, _≤_, _<_}
+use mathlib.Core.Path.{_≡_, refl, sym, ap, ap₂, _∙_}
+use mathlib.Core.Bool.{Bool, true, false, _&&_, _||_}
+use mathlib.Core.List.{List, [], _∷_, _++_}
+use native.Mathlib.Omega.{arith}
+use native.Mathlib.Numerals.{add-one}
+use native.Mathlib.Decide.{ℕ-discrete}
+use borrow.Author.Tests.{eq-eqb, ne-eqb}
+use lib.Dec.{eqb, lit<}
+use lib.ListN.{length, take, drop, getD, set, replicate, drop-of-length-le}
+use lib.Seq.{length-take-le, take-suc, drop-cons, set-at, append-snoc, getD-set-same, getD-set-other}
+use Rattle.tables.specs.declared.table.Row.{Row}
+use Rattle.tables.specs.declared.table.Column.{Column}
+use Rattle.tables.specs.Table.{place, rowNumber, columnNumber, levelsTable}
+use Rattle.tables.proofs.Laws.{table-cong, row-below, column-below}
+use Rattle.models.specs.declared.model.Name.{Name}
+use Rattle.models.specs.Scan.{levelOf, nameRun}
+use Rattle.models.specs.Reading.{filled, nameIn, tableIn, sameBytes, among}
+
+-- the next byte of a name, in place of a zero
+pub name-more : (s : List ℕ) (i : ℕ) → i < length s → i < 16
+    → set (take i s ++ replicate (16 - i) 0) i (getD s i 0) ≡ take (i + 1) s ++ replicate (16 - (i + 1)) 0
+name-more s i ls li =
+    let k : ℕ = 16 - (i + 1) in
+    let e : 16 - i ≡ suc k = omega arith in
+    ap (λ (n : ℕ). set (take i s ++ replicate n 0) i (getD s i 0)) e
+    ∙ set-at (take i s) 0 (replicate k 0) (getD s i 0) i (length-take-le i s (omega arith))
+    ∙ sym (append-snoc (take i s) (getD s i 0) (replicate k 0))
+    ∙ ap (λ (l : List ℕ). l ++ replicate k 0) (sym (take-suc s i 0 ls) ∙ ap (λ (n : ℕ). take n s) (sym (add-one i)))
+
+pub name-done : (s : List ℕ) (n i : ℕ) → n ≡ nameRun 16 s → n ≤ length s → i ≡ n
+    → record { bytes = take i s ++ replicate (16 - i) 0 } ≡ nameIn s
+unfolding nameIn
+name-done s n i run ln e =
+    let whole : take i s ++ replicate (16 - i) 0 ≡ take n s ++ replicate (16 - length (take n s)) 0 =
+    ap₂ (λ (a b : ℕ). take a s ++ replicate (16 - b) 0) e (e ∙ sym (length-take-le n s ln)) in
+    ap (λ (l : List ℕ). record { bytes = l }) whole ∙ ap (λ (k : ℕ). filled (take k s)) run
+
+-- one element more is stored where f says what each is
+pub stored-more : (l : List ℕ) (i x : ℕ) (f : ℕ → ℕ) → i < length l → x ≡ f i → ((j : ℕ) → j < i → getD l j 0 ≡ f j)
+    → (j : ℕ) → j < i + 1 → getD (set l i x) j 0 ≡ f j
+stored-more l i x f li is h j lj = by (ℕ-discrete j i)
+  where
+    by : Dec (j ≡ i) → getD (set l i x) j 0 ≡ f j
+    by (yes e) = ap (λ (k : ℕ). getD (set l i x) k 0) e ∙ getD-set-same l i x 0 li ∙ is ∙ ap f (sym e)
+    by (no n) = getD-set-other l i j x 0 n ∙ h j (omega arith)
+
+-- levels in the order of the text are its table
+pub levels-read : (s levels : List ℕ) → ((j : ℕ) → j < 16 → getD levels j 0 ≡ levelOf (getD s (j + j / 4) 0)) → levelsTable levels ≡ tableIn s
+unfolding levelsTable tableIn
+levels-read s levels h = table-cong _ _ λ r c.
+    let low = row-below r in
+    let narrow = column-below c in
+    let e : place r c + place r c / 4 ≡ 5 * rowNumber r + columnNumber c = omega arith in
+    h (place r c) (omega arith) ∙ ap (λ (i : ℕ). levelOf (getD s i 0)) e
+
+-- two names, compared up to a place
+module _ (a b : List ℕ) (i : ℕ) (la : i < length a) (lb : i < length b) where
+  pub same-not : (getD a i 0 ≡ getD b i 0 → ⊥) → sameBytes (drop i a) (drop i b) ≡ false
+  same-not h = rw (drop-cons a i 0 la, drop-cons b i 0 lb) (rw (ne-eqb _ _ h))
+
+  pub same-more : getD a i 0 ≡ getD b i 0 → sameBytes (drop i a) (drop i b) ≡ sameBytes (drop (i + 1) a) (drop (i + 1) b)
+  same-more h =
+      ap₂ sameBytes (drop-cons a i 0 la) (drop-cons b i 0 lb)
+      ∙ ap (λ (q : Bool). q && sameBytes (drop (suc i) a) (drop (suc i) b)) (eq-eqb _ _ h)
+      ∙ ap (λ (n : ℕ). sameBytes (drop n a) (drop n b)) (sym (add-one i))
+
+pub same-done : (a b : List ℕ) (i : ℕ) → length a ≤ i → length b ≤ i → sameBytes (drop i a) (drop i b) ≡ true
+same-done a b i la lb = rw (drop-of-length-le a la, drop-of-length-le b lb)
+
+-- a name looked for among others, from a place on
+module _ (n : Name) (l : List Name) (i : ℕ) (d : Name) where
+  pub among-here : i < length l → sameBytes (getD l i d .bytes) (n .bytes) ≡ true → among n (drop i l) ≡ true
+  among-here li h = ap (among n) (drop-cons l i d li) ∙ ap (λ (q : Bool). q || among n (drop (suc i) l)) h
+
+  pub among-more : i < length l → sameBytes (getD l i d .bytes) (n .bytes) ≡ false → among n (drop i l) ≡ among n (drop (i + 1) l)
+  among-more li h =
+      ap (among n) (drop-cons l i d li)
+      ∙ ap (λ (q : Bool). q || among n (drop (suc i) l)) h
+      ∙ ap (λ (k : ℕ). among n (drop k l)) (sym (add-one i))
+
+pub among-done : (n : Name) (l : List Name) (i : ℕ) → length l ≤ i → among n (drop i l) ≡ false
+among-done n l i h = rw (drop-of-length-le l h)

@@ -1,0 +1,81 @@
+-- `read` meets its contract. Assumes nothing.
+use mathlib.Core.Path.{_≡_, sym, ap, ap₂, _∙_}
+use denote.Ref.{now}
+use lib.ListN.{drop}
+use Rattle.models.specs.declared.model.Model.{Model}
+use Rattle.models.specs.Reading.{nameIn, tableIn, bare, linesFrom}
+use Rattle.models.proofs.Steps.{line-stuck, line-next, reading-over, reading-within, afterHead}
+use borrow.Author.Needs.{needs}
+use Rattle.models.proofs.reader.read.Statement.{statement}
+use Rattle.models.proofs.reader.read.Tie as tie
+
+refuse-requires : tie.Need-refuse-requires
+refuse-requires c κs = search needs
+
+returns : tie.Need-returns
+returns c = c .refuse .ensures ∙ sym (reading-over (now (c .before .before .before .args .text)) (c .before .if1 .taken))
+
+head-line-requires : tie.Need-head-line-requires
+head-line-requires c κs = search needs
+
+enum-known-at : tie.Need-enum-known-at
+enum-known-at c = search needs
+
+refuse-requires-2 : tie.Need-refuse-requires-2
+refuse-requires-2 c κs = search needs
+
+enum-known-line : tie.Need-enum-known-line
+enum-known-line c = search needs
+
+rest-requires : tie.Need-rest-requires
+rest-requires c κs = search needs
+
+name-in-requires : tie.Need-name-in-requires
+name-in-requires c κs = search needs
+
+rest-requires-2 : tie.Need-rest-requires-2
+rest-requires-2 c κs = search needs
+
+table-in-requires : tie.Need-table-in-requires
+table-in-requires c κs = search needs
+
+bare-model-requires : tie.Need-bare-model-requires
+bare-model-requires c κs = search needs
+
+lines-requires : tie.Need-lines-requires
+lines-requires c κs = search needs
+
+returns-2 : tie.Need-returns-2
+returns-2 c =
+    let t = now (c .before .before .before .before .before .before .before .args .text) in
+    line-stuck (afterHead t) (c .before .before .before .before .head-line .ensures) (c .before .before .at .given .1) (c .refuse2 .ensures) ∙ sym (reading-within t (c .before .before .before .before .before .if1 .left))
+
+returns-3 : tie.Need-returns-3
+returns-3 c =
+    let t = now (c .before .before .before .before .before .before .before .before .before .before .before .before .args .text) in
+    let line = c .before .before .before .before .before .before .before .line .given .0 .0 in
+    let name : c .before .before .before .before .name-in .result ≡ nameIn (drop (line .name) t) = c .before .before .before .before .name-in .ensures ∙ ap nameIn (c .before .before .before .before .before .rest .ensures) in
+    let ppo : c .before .before .table-in .result ≡ tableIn (drop (line .table) t) = c .before .before .table-in .ensures ∙ ap tableIn (c .before .before .before .rest2 .ensures) in
+    let is : c .lines .result ≡ afterHead t line =
+    c .lines .ensures
+    ∙ ap (λ (m : Model). linesFrom 16 t (record { model = m; repeat = 0 }) (line .next)) (c .before .bare-model .ensures ∙ ap₂ bare name ppo) in
+    line-next (afterHead t) (c .before .before .before .before .before .before .before .before .before .head-line .ensures) (c .before .before .before .before .before .before .before .line .given .1) is ∙ sym (reading-within t (c .before .before .before .before .before .before .before .before .before .before .if1 .left))
+
+pub read-spec : {M : Type 1} → statement M
+read-spec =
+    tie.close
+    (tie.spec
+    refuse-requires
+    returns
+    head-line-requires
+    enum-known-at
+    refuse-requires-2
+    enum-known-line
+    rest-requires
+    name-in-requires
+    rest-requires-2
+    table-in-requires
+    bare-model-requires
+    lines-requires
+    returns-2
+    returns-3)

@@ -1,0 +1,66 @@
+use denote.Ref.{now}
+use mathlib.Core.Path.{ap}
+use lib.ListN.{length-set}
+-- `table_in` meets its contract. Assumes nothing.
+use borrow.Author.Needs.{needs}
+use mathlib.Core.Path.{_≡_, refl, sym, _∙_}
+use Prim.Native.Nat.{ℕ, _+_, _-_, _/_, _≤_, _<_}
+use native.Mathlib.Omega.{arith}
+use lib.ListN.{length, getD, take, drop, replicate}
+use Rattle.models.specs.Scan.{levelOf}
+use Rattle.models.proofs.Taken.{stored-more, levels-read}
+use Rattle.models.proofs.reader.table_in.Statement.{statement}
+use Rattle.models.proofs.reader.table_in.Tie as tie
+
+abbrev Inv-loop : tie.InvT-loop
+Inv-loop text levels₀ i₀ levels i = (i ≤ 16) × (length levels ≡ 16) × ((j : ℕ) → j < i → getD levels j 0 ≡ levelOf (getD text (j + j / 4) 0))
+
+abbrev μ-loop : tie.MeasureT-loop
+μ-loop text levels₀ i₀ levels i = 16 - i
+
+loop-holds : tie.Need-loop-holds Inv-loop μ-loop
+loop-holds c = search needs
+
+add-byte-at : tie.Need-add-byte-at Inv-loop μ-loop
+add-byte-at c = search needs
+
+byte-at-requires : tie.Need-byte-at-requires Inv-loop μ-loop
+byte-at-requires c κs = search needs
+
+level-of-requires : tie.Need-level-of-requires Inv-loop μ-loop
+level-of-requires c κs = search needs
+
+array-write-levels : tie.Need-array-write-levels Inv-loop μ-loop
+array-write-levels c = search needs
+
+add-i : tie.Need-add-i Inv-loop μ-loop
+add-i c = search needs
+
+loop-less : tie.Need-loop-less Inv-loop μ-loop
+loop-less c = search needs
+
+loop-again : tie.Need-loop-again Inv-loop μ-loop
+loop-again c = let l = c .before .before .before .loop in (search needs, simp length-set (l .inv .1), stored-more (l .levels) (l .i) _ (λ (j : ℕ). levelOf (getD (now (c .before .before .before .before .before .args .text)) (j + j / 4) 0)) (omega arith) (c .level-of .ensures ∙ ap levelOf (c .before .byte-at .ensures)) (l .inv .2))
+
+of-levels-requires : tie.Need-of-levels-requires Inv-loop μ-loop
+of-levels-requires c κs = search needs
+
+returns : tie.Need-returns Inv-loop μ-loop
+returns c = c .of-levels .ensures ∙ levels-read (now (c .before .before .before .before .args .text)) (c .before .before .loop .levels) (λ j lj. c .before .before .loop .inv .2 j (omega arith))
+
+pub table-in-spec : {M : Type 1} → statement M
+table-in-spec =
+    tie.close
+    (tie.spec
+    Inv-loop
+    μ-loop
+    loop-holds
+    add-byte-at
+    byte-at-requires
+    level-of-requires
+    array-write-levels
+    add-i
+    loop-less
+    loop-again
+    of-levels-requires
+    returns)

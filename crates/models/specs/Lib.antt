@@ -1,0 +1,6 @@
+pub mod Bytes
+pub mod Model
+pub mod Text
+pub mod Form
+pub mod Scan
+pub mod Reading

@@ -1,0 +1,236 @@
+// The reader: from a text to a model.
+ghost use mathlib.Core.Path.{_≡_};
+ghost use Prim.Native.Nat.{ℕ, _+_, _≤_, _<_};
+ghost use lib.ListN.{length, take, drop};
+ghost use Rattle.models.specs.Scan.{levelOf};
+ghost use Rattle.models.specs.Reading.{nameIn, tableIn, sameBytes, among, bare, started, repeatOf, withFence, fenceFrom, refusing, finished, ended, linesFrom, reading, Told};
+use crate::model::Model;
+use crate::model::Name;
+use crate::model::Reading;
+use crate::model::Verdict;
+use crate::scan;
+use crate::scan::Line;
+use crate::scan::LineRead;
+use crate::scan::Step;
+use answers::Refusal;
+use tables::table::Table;
+
+// A model in the making, and the place of the first fence name that stood above already (0 while there is none).
+struct Progress {
+    model: Model,
+    repeat: usize,
+}
+
+fn level_of(b: u8) -> u8
+    ensures { λ r. ⌜ r ≡ levelOf b ⌝ }
+{
+    if b == b'N' {
+        return 1;
+    }
+    if b == b'M' {
+        return 2;
+    }
+    if b == b'S' {
+        return 3;
+    }
+    0
+}
+
+// What is left of the text from a place on.
+fn rest(text: &[u8], at: usize) -> &[u8]
+    ensures { λ r. ⌜ now r ≡ drop at (now (text .entry)) ⌝ }
+{
+    if at <= text.len() {
+        &text[at..]
+    } else {
+        &text[text.len()..]
+    }
+}
+
+fn table_in(text: &[u8]) -> Table
+    ensures { λ r. ⌜ r ≡ tableIn (now (text .entry)) ⌝ }
+{
+    let mut levels = [0u8; 16];
+    let mut i = 0;
+    while i < 16 {
+        levels[i] = level_of(scan::byte_at(text, i + i / 4));
+        i += 1;
+    }
+    Table::of_levels(levels)
+}
+
+fn name_in(text: &[u8]) -> Name
+    ensures { λ r. ⌜ r ≡ nameIn (now (text .entry)) ⌝ }
+{
+    let n = scan::name_bytes(text, 0);
+    let mut bytes = [0u8; 16];
+    let mut i = 0;
+    while i < n {
+        bytes[i] = text[i];
+        i += 1;
+    }
+    Name { bytes }
+}
+
+fn same_name(a: Name, b: Name) -> bool
+    ensures { λ r. ⌜ r ≡ sameBytes (a .bytes) (b .bytes) ⌝ }
+{
+    let mut i = 0;
+    while i < 16 {
+        if a.bytes[i] != b.bytes[i] {
+            return false;
+        }
+        i += 1;
+    }
+    true
+}
+
+// Whether a name stands among the first of sixteen.
+fn is_among(name: Name, names: [Name; 16], count: usize) -> bool
+    requires { ⌜ count ≤ 16 ⌝ }
+    ensures { λ r. ⌜ r ≡ among name (take count names) ⌝ }
+{
+    let mut i = 0;
+    while i < count {
+        let above = names[i];
+        if same_name(above, name) {
+            return true;
+        }
+        i += 1;
+    }
+    false
+}
+
+// A model without fences.
+pub fn bare_model(name: Name, ppo: Table) -> Model
+    ensures { λ r. ⌜ r ≡ bare name ppo ⌝ }
+{
+    let zeros = Name { bytes: [0; 16] };
+    Model {
+        ppo,
+        fences: 0,
+        tables: [0; 16],
+        name,
+        names: [zeros; 16],
+    }
+}
+
+pub fn refuse(why: Refusal) -> Reading
+    ensures { λ r. ⌜ r ≡ refusing why ⌝ }
+{
+    let model = bare_model(Name { bytes: [0; 16] }, Table::NONE);
+    Reading {
+        verdict: Verdict::Refused(why),
+        model,
+    }
+}
+
+fn finish(p: Progress) -> Reading
+    ensures { λ r. ⌜ r ≡ finished p ⌝ }
+{
+    let at = p.repeat;
+    if at == 0 {
+        let model = p.model;
+        return Reading {
+            verdict: Verdict::Accepted,
+            model,
+        };
+    }
+    refuse(Refusal::FenceNameRepeats(at))
+}
+
+fn repeat_place(p: Progress, name: Name, at: usize) -> usize
+    requires { ⌜ p .model .fences ≤ 16 ⌝ }
+    ensures { λ r. ⌜ r ≡ repeatOf p name at ⌝ }
+{
+    let found = p.repeat;
+    if found != 0 {
+        return found;
+    }
+    let model = p.model;
+    let names = model.names;
+    if is_among(name, names, model.fences) {
+        return at;
+    }
+    0
+}
+
+fn with_fence(p: Progress, name: Name, at: usize, table: Table) -> Progress
+    requires { ⌜ p .model .fences < 16 ⌝ }
+    ensures { λ r. ⌜ r ≡ withFence p name at table ⌝ }
+{
+    let repeat = repeat_place(p, name, at);
+    let mut model = p.model;
+    let k = model.fences;
+    model.tables[k] = table.packed;
+    model.names[k] = name;
+    model.fences = k + 1;
+    Progress { model, repeat }
+}
+
+fn fence_from(text: &[u8], p: Progress, line: Line) -> Progress
+    requires { ⌜ p .model .fences < 16 ⌝ }
+    ensures { λ r. ⌜ r ≡ fenceFrom (now (text .entry)) p line ⌝ }
+{
+    let name = name_in(rest(text, line.name));
+    let table = table_in(rest(text, line.table));
+    with_fence(p, name, line.name, table)
+}
+
+fn end(text: &[u8], p: Progress, at: usize) -> Reading
+    ensures { λ r. ⌜ r ≡ ended (now (text .entry)) p at ⌝ }
+{
+    match scan::follow(text, at, b"end\n") {
+        Step::Stuck(at) => refuse(Refusal::NotOfTheForm(at)),
+        Step::Next(past) => {
+            if past == text.len() {
+                return finish(p);
+            }
+            refuse(Refusal::NotOfTheForm(past))
+        }
+    }
+}
+
+// The fences' lines and the last line.
+fn lines(text: &[u8], start: Progress, at: usize) -> Reading
+    requires { ⌜ start .model .fences ≡ 0 ⌝ }
+    ensures { λ r. ⌜ r ≡ linesFrom 16 (now (text .entry)) start at ⌝ }
+{
+    let mut p = start;
+    let mut here = at;
+    let mut left: usize = 16;
+    while 0 < left {
+        if scan::byte_at(text, here) != b'f' {
+            return end(text, p, here);
+        }
+        match scan::fence_line(text, here) {
+            LineRead::Stuck(at) => {
+                return refuse(Refusal::NotOfTheForm(at));
+            }
+            LineRead::Read(line) => {
+                p = fence_from(text, p, line);
+                here = line.next;
+                left -= 1;
+            }
+        }
+    }
+    end(text, p, here)
+}
+
+// What a text says, or why it is refused.
+pub fn read(text: &[u8]) -> Reading
+    ensures { λ r. ⌜ r ≡ reading (now (text .entry)) ⌝ }
+{
+    if 1024 < text.len() {
+        return refuse(Refusal::OverLimit);
+    }
+    match scan::head_line(text) {
+        LineRead::Stuck(at) => refuse(Refusal::NotOfTheForm(at)),
+        LineRead::Read(line) => {
+            let name = name_in(rest(text, line.name));
+            let ppo = table_in(rest(text, line.table));
+            let model = bare_model(name, ppo);
+            lines(text, Progress { model, repeat: 0 }, line.next)
+        }
+    }
+}
