@@ -1,0 +1,4 @@
+pub mod Index
+pub mod Words
+pub mod Refine
+pub mod Rows
