@@ -1,0 +1,48 @@
+use borrow.Author.Needs.{needs}
+use Rattle.image.proofs.reader.is_barred_name.Statement.{statement}
+use Rattle.image.proofs.reader.is_barred_name.Tie as tie
+use Rattle.image.proofs.reader.is_barred_name.Reads as reads
+use Rattle.image.proofs.reader.is_barred_name.Lts as lts
+use Rattle.image.proofs.reader.byte_at.Reads as byte-at-reads
+use Rattle.image.proofs.reader.has_ended.Reads as has-ended-reads
+use Rattle.image.proofs.reader.is_name_byte.Reads as is-name-byte-reads
+
+-- src/reader.rt:67:31
+add-byte-at : tie.Need-add-byte-at
+add-byte-at c = search needs
+
+-- src/reader.rt:67:9
+byte-at-requires : tie.Need-byte-at-requires
+byte-at-requires c κs = search needs
+
+-- src/reader.rt:69:9
+returns : tie.Need-returns
+returns c = ?
+
+-- src/reader.rt:71:8
+is-name-byte-requires : tie.Need-is-name-byte-requires
+is-name-byte-requires c κs = search needs
+
+-- src/reader.rt:72:9
+has-ended-requires : tie.Need-has-ended-requires
+has-ended-requires c κs = search needs
+
+-- src/reader.rt:72:9
+returns-2 : tie.Need-returns-2
+returns-2 c = ?
+
+-- src/reader.rt:63:1
+returns-3 : tie.Need-returns-3
+returns-3 c = ?
+
+pub is-barred-name-spec : {M : Type 1} → statement M
+is-barred-name-spec =
+    tie.close
+    (tie.spec
+    add-byte-at
+    byte-at-requires
+    returns
+    is-name-byte-requires
+    has-ended-requires
+    returns-2
+    returns-3)

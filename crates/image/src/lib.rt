@@ -1,0 +1,4 @@
+// The machine image: blocks of 512 bytes, read, written and run over.
+mod checksum;
+mod layout;
+pub mod reader;
