@@ -1,6 +1,8 @@
 // What a call answers: the refusals of document 01's table, and the five numbers of an answer.
 ghost use mathlib.Core.Path.{_≡_};
+ghost use lib.ListN.{length};
 ghost use Rattle.answers.specs.Answer.{numberOf, placeOf, numbersOf};
+ghost use Rattle.answers.specs.Written.{written, writing};
 
 // A refusal, with its place where it has one other than 0.
 pub enum Refusal {
@@ -81,5 +83,26 @@ impl Answer {
             } => [0, 0, written as u64, fences as u64, state as u64],
             Answer::Refused(why) => [why.number(), why.place(), 0, 0, 0],
         }
+    }
+}
+
+// Writes the text to the buffer, or nothing where it does not fit. A call that writes makes its text apart and ends with this.
+pub fn write_out(text: &[u8], fences: usize, state: usize, out: &mut [u8]) -> Answer
+    ensures answer { λ r. ⌜ r ≡ writing (now (text .entry)) fences state (length (now (out .entry))) ⌝ }
+    ensures buffer { λ _. ⌜ now (out .exit) ≡ written (now (text .entry)) (now (out .entry)) ⌝ }
+{
+    let n = text.len();
+    if out.len() < n {
+        return Answer::Refused(Refusal::BufferTooSmall);
+    }
+    let mut i = 0;
+    while i < n {
+        out[i] = text[i];
+        i += 1;
+    }
+    Answer::Done {
+        written: n,
+        fences,
+        state,
     }
 }

@@ -24,7 +24,7 @@ use Rattle.models.proofs.Judgement.{EndLine, TablePart, FenceThen, Line
 use Rattle.models.proofs.TableText.{part-follows, text-of-table}
 
 -- a word: a pattern without `?`
-plain : List ℕ → Bool
+abbrev pub plain : List ℕ → Bool
 plain [] = true
 plain (p ∷ ps) = not (eqb p 63) && plain ps
 
@@ -37,7 +37,6 @@ unmarked-rest true r t = absurd t
 unmarked-rest false r t = t
 
 same-word : (ps a : List ℕ) → T (plain ps) → Follows ps a → a ≡ ps
-unfolding plain
 same-word [] [] w f = refl
 same-word [] (b ∷ a) w f = absurd f
 same-word (p ∷ ps) [] w f = absurd f
@@ -45,8 +44,7 @@ same-word (p ∷ ps) (b ∷ a) w f =
     ap₂ (λ (x : ℕ) (l : List ℕ). x ∷ l) (eqb→eq b p (subst T (unmarked (eqb p 63) (plain ps) (cellByte b) (eqb b p) w) (f .0)))
     (same-word ps a (unmarked-rest (eqb p 63) (plain ps) w) (f .1))
 
-own-word : (ps : List ℕ) → T (plain ps) → Follows ps ps
-unfolding plain
+pub own-word : (ps : List ℕ) → T (plain ps) → Follows ps ps
 own-word [] w = tt
 own-word (p ∷ ps) w = (
   subst T (sym (unmarked (eqb p 63) (plain ps) (cellByte p) (eqb p p) w)) (eqb-refl p),
@@ -56,11 +54,11 @@ own-word (p ∷ ps) w = (
 abbrev Held : (List Fence → List ℕ) → ℕ → List ℕ → Type 0
 Held text n t = (fs : List Fence) × (length fs ≤ n) × Each FenceFormed fs × (t ≡ text fs)
 
-abbrev lineTexts : List Fence → List ℕ
+abbrev pub lineTexts : List Fence → List ℕ
 lineTexts fs = fencesText fs ++ bytes "end\n"
 
 -- a fence's line in front of the others
-front : (f : Fence) (fs : List Fence)
+pub front : (f : Fence) (fs : List Fence)
     → bytes "fence " ++ ((f .name ++ (32 ∷ [])) ++ (tablePart (f .table) ++ lineTexts fs)) ≡ lineTexts (f ∷ fs)
 front f fs =
     let tail : List ℕ = lineTexts fs in
@@ -77,7 +75,6 @@ unfolding tableIn
 clean-in a = table-clean _
 
 lines-more : (n : ℕ) (t : List ℕ) → ((s : List ℕ) → Lines n s → Held lineTexts n s) → FenceThen (Lines n) t → Held lineTexts (suc n) t
-unfolding plain
 lines-more n t rest x =
     let p = seq-apart (Follows (bytes "fence ")) (Seq (Ended 32) (Seq TablePart (Lines n))) t x in
     let q = seq-apart (Ended 32) (Seq TablePart (Lines n)) (p .1) (p .4) in
@@ -93,13 +90,11 @@ lines-more n t rest x =
     )
 
 lines-to : (n : ℕ) (t : List ℕ) → Lines n t → Held lineTexts n t
-unfolding plain
 lines-to zero t f = ([], omega arith, tt, same-word (bytes "end\n") t tt f)
 lines-to (suc n) t (inr f) = ([], omega arith, tt, same-word (bytes "end\n") t tt f)
 lines-to (suc n) t (inl x) = lines-more n t (lines-to n) x
 
 lines-back : (n : ℕ) (fs : List Fence) → length fs ≤ n → Each FenceFormed fs → Lines n (lineTexts fs)
-unfolding plain
 lines-back zero [] l h = own-word (bytes "end\n") tt
 lines-back (suc n) [] l h = inr (own-word (bytes "end\n") tt)
 lines-back zero (f ∷ fs) l h = absurd (omega arith)
@@ -110,7 +105,7 @@ lines-back (suc n) (f ∷ fs) l h =
     (seq-join TablePart (Lines n) (tablePart (f .table)) (lineTexts fs) (part-follows (f .table)) (lines-back n fs (le-of-suc-le-suc l) (h .1))))))
 
 -- the two lines above
-above : (d : Description)
+pub above : (d : Description)
     → bytes "model " ++ ((d .name ++ (10 ∷ [])) ++ (bytes "ppo " ++ (tablePart (d .ppo) ++ lineTexts (d .fences)))) ≡ textOf d
 above d =
     let tail : List ℕ = lineTexts (d .fences) in
@@ -119,7 +114,6 @@ above d =
     (append-assoc (d .name) (10 ∷ []) (bytes "ppo " ++ (part ++ tail)) ∙ sym (append-assoc (d .name) (bytes "\n" ++ (bytes "ppo " ++ part)) tail))
 
 pub text-to : (t : List ℕ) → TextForm t → Form t
-unfolding plain
 text-to t x =
     let p = seq-apart (Follows (bytes "model ")) (Seq (Ended 10) (Seq (Follows (bytes "ppo ")) (Seq TablePart (Lines 16)))) t x in
     let q = seq-apart (Ended 10) (Seq (Follows (bytes "ppo ")) (Seq TablePart (Lines 16))) (p .1) (p .4) in
@@ -139,7 +133,6 @@ text-to t x =
     )
 
 pub text-back : (t : List ℕ) → Form t → TextForm t
-unfolding plain
 text-back t (d, h, e) =
     subst TextForm (above d ∙ sym e)
     (seq-join (Follows (bytes "model ")) (Seq (Ended 10) (Seq (Follows (bytes "ppo ")) (Seq TablePart (Lines 16)))) (bytes "model ") _ (own-word (bytes "model ") tt)

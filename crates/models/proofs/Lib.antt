@@ -6,3 +6,7 @@ pub mod Taken
 pub mod Judgement
 pub mod TableText
 pub mod Grammar
+pub mod Reread
+pub mod Names
+pub mod Pushed
+pub mod Words

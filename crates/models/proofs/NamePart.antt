@@ -26,10 +26,10 @@ NameBytes n = Each (λ (b : ℕ). T (nameByte b)) n
 abbrev pub Ended : ℕ → Language
 Ended e a = (n : List ℕ) × NameFormed n × (a ≡ n ++ (e ∷ []))
 
-pub each-at : (P : ℕ → Type 0) (l : List ℕ) → Each P l → (i : ℕ) → i < length l → P (getD l i 0)
-each-at P [] h i li = absurd (omega arith)
-each-at P (x ∷ l) h zero li = h .0
-each-at P (x ∷ l) h (suc i) li = each-at P l (h .1) i (le-of-suc-le-suc li)
+pub each-at : {A : Type 0} (P : A → Type 0) (l : List A) (d : A) → Each P l → (i : ℕ) → i < length l → P (getD l i d)
+each-at P [] d h i li = absurd (omega arith)
+each-at P (x ∷ l) d h zero li = h .0
+each-at P (x ∷ l) d h (suc i) li = each-at P l d (h .1) i (le-of-suc-le-suc li)
 
 -- what a run of name bytes is
 record Run (limit : ℕ) (s : List ℕ) (n : ℕ) : Type 0 where
@@ -80,13 +80,13 @@ module _ (e : ℕ) (not-name : T (nameByte e) → ⊥) where
       ∙ getD-at n e [] 0 (length n) refl
 
   name-at : (n : List ℕ) → NameFormed n → (i : ℕ) → i < length n → T (nameByte (getD n i 0))
-  name-at n f i li = each-at (λ (b : ℕ). T (nameByte b)) n (f .bytes) i li
+  name-at n f i li = each-at (λ (b : ℕ). T (nameByte b)) n 0 (f .bytes) i li
 
   module _ (s : List ℕ) (k : ℕ) (r : Run 16 s k) where
     in-run : (i : ℕ) → i < k → T (nameByte (getD s i 0))
     in-run i li =
         subst (λ (b : ℕ). T (nameByte b)) (getD-take k s i 0 li)
-        (each-at (λ (b : ℕ). T (nameByte b)) (take k s) (r .bytes) i (omega (arith, length-take-le k s (r .within))))
+        (each-at (λ (b : ℕ). T (nameByte b)) (take k s) 0 (r .bytes) i (omega (arith, length-take-le k s (r .within))))
 
     -- the name does not end within the run
     not-before : (rest n : List ℕ) (j : ℕ) → j ≤ length s → length n < j → take j s ++ rest ≡ n ++ (e ∷ []) → length n < k → ⊥

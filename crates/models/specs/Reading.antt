@@ -57,12 +57,21 @@ accepting m = record { verdict = Verdict.Accepted; model = m }
 abbrev pub refusing : Refusal → Reading
 refusing why = record { verdict = Verdict.Refused why; model = nothing }
 
--- the name of the fence k, and where it stands in the text: behind the lines above and the word `fence `
+-- the fence k, where its line begins in the text, and where its name stands there: behind the word `fence `
+abbrev pub noFence : Fence
+noFence = record { name = []; table = record { packed = 0 } }
+
+abbrev pub fenceOf : Description → ℕ → Fence
+fenceOf d k = getD (d .fences) k noFence
+
 abbrev pub nameOf : Description → ℕ → List ℕ
-nameOf d k = getD (d .fences) k (record { name = []; table = record { packed = 0 } }) .name
+nameOf d k = fenceOf d k .name
+
+abbrev pub lineStands : Description → ℕ → ℕ
+lineStands d k = length (headText d) + length (fencesText (take k (d .fences)))
 
 abbrev pub nameStands : Description → ℕ → ℕ
-nameStands d k = length (headText d) + (length (fencesText (take k (d .fences))) + 6)
+nameStands d k = lineStands d k + 6
 
 -- the name of the fence k equals one above it
 abbrev pub Repeats : Description → ℕ → Type 0

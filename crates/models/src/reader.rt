@@ -219,7 +219,8 @@ fn lines(text: &[u8], start: Progress, at: usize) -> Reading
 
 // What a text says, or why it is refused.
 pub fn read(text: &[u8]) -> Reading
-    ensures { λ r. ⌜ r ≡ reading (now (text .entry)) ⌝ }
+    ensures equation { λ r. ⌜ r ≡ reading (now (text .entry)) ⌝ }
+    ensures words { λ r. ⌜ Told (now (text .entry)) r ⌝ }
 {
     if 1024 < text.len() {
         return refuse(Refusal::OverLimit);

@@ -4,6 +4,7 @@ use denote.Ref.{now}
 use lib.ListN.{drop}
 use Rattle.models.specs.declared.model.Model.{Model}
 use Rattle.models.specs.Reading.{nameIn, tableIn, bare, linesFrom}
+use Rattle.models.proofs.Words.{meets}
 use Rattle.models.proofs.Steps.{line-stuck, line-next, reading-over, reading-within, afterHead}
 use borrow.Author.Needs.{needs}
 use Rattle.models.proofs.reader.read.Statement.{statement}
@@ -13,7 +14,7 @@ refuse-requires : tie.Need-refuse-requires
 refuse-requires c κs = search needs
 
 returns : tie.Need-returns
-returns c = c .refuse .ensures ∙ sym (reading-over (now (c .before .before .before .args .text)) (c .before .if1 .taken))
+returns c = meets (now (c .before .before .before .args .text)) (c .refuse .ensures ∙ sym (reading-over (now (c .before .before .before .args .text)) (c .before .if1 .taken)))
 
 head-line-requires : tie.Need-head-line-requires
 head-line-requires c κs = search needs
@@ -48,7 +49,7 @@ lines-requires c κs = search needs
 returns-2 : tie.Need-returns-2
 returns-2 c =
     let t = now (c .before .before .before .before .before .before .before .args .text) in
-    line-stuck (afterHead t) (c .before .before .before .before .head-line .ensures) (c .before .before .at .given .1) (c .refuse2 .ensures) ∙ sym (reading-within t (c .before .before .before .before .before .if1 .left))
+    meets t (line-stuck (afterHead t) (c .before .before .before .before .head-line .ensures) (c .before .before .at .given .1) (c .refuse2 .ensures) ∙ sym (reading-within t (c .before .before .before .before .before .if1 .left)))
 
 returns-3 : tie.Need-returns-3
 returns-3 c =
@@ -59,7 +60,7 @@ returns-3 c =
     let is : c .lines .result ≡ afterHead t line =
     c .lines .ensures
     ∙ ap (λ (m : Model). linesFrom 16 t (record { model = m; repeat = 0 }) (line .next)) (c .before .bare-model .ensures ∙ ap₂ bare name ppo) in
-    line-next (afterHead t) (c .before .before .before .before .before .before .before .before .before .head-line .ensures) (c .before .before .before .before .before .before .before .line .given .1) is ∙ sym (reading-within t (c .before .before .before .before .before .before .before .before .before .before .if1 .left))
+    meets t (line-next (afterHead t) (c .before .before .before .before .before .before .before .before .before .head-line .ensures) (c .before .before .before .before .before .before .before .line .given .1) is ∙ sym (reading-within t (c .before .before .before .before .before .before .before .before .before .before .if1 .left)))
 
 pub read-spec : {M : Type 1} → statement M
 read-spec =
