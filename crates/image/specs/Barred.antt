@@ -52,7 +52,7 @@ unfoldable pub ended : List ℕ → ℕ → ℕ → Bool
 ended image from zero = false
 ended image from (suc k) = choose (eqb (at image (from + k)) 0) true (ended image from k)
 
-abbrev pub barredName : List ℕ → ℕ → ℕ → Bool
+unfoldable pub barredName : List ℕ → ℕ → ℕ → Bool
 barredName image from k =
     choose (eqb (at image (from + k)) 0) (eqb k 0) (choose (nameByte (at image (from + k))) (ended image from k) true)
 
@@ -67,29 +67,36 @@ abbrev pub targetFencesOf : List ℕ → ℕ
 targetFencesOf image = at image 6
 
 -- the number that the next state must stay below: the states, and 1 where nothing but zero may stand
-abbrev pub nextBelow : List ℕ → ℕ → Bool → ℕ
+unfoldable pub nextBelow : List ℕ → ℕ → Bool → ℕ
 nextBelow image state leads = choose (ltb state (statesOf image)) (choose leads (statesOf image) 1) 1
 
--- the value of byte i is barred, by what stands there
-abbrev pub barredAs : List ℕ → ℕ → Place → Bool
-barredAs image i Place.Number = false
-barredAs image i Place.Check = false
-barredAs image i Place.Nothing = leb 1 (at image i)
-barredAs image i Place.Form = not (eqb (at image i) 1)
-barredAs image i Place.Way = ltb 1 (at image i)
-barredAs image i Place.States =
-    choose (eqb (at image i) 0) true (not (eqb (length image) (512 * blocksFor 1 (at image i))))
-barredAs image i Place.UpstreamFences = ltb 16 (at image i)
-barredAs image i Place.TargetFences = ltb 16 (at image i)
-barredAs image i (Place.UpstreamName k) = barredName image 7 k
-barredAs image i (Place.TargetName k) = barredName image 23 k
-barredAs image i (Place.Fence state a) =
-    choose (ltb state (statesOf image)) (choose (leb (targetFencesOf image) (at image i)) (ltb (at image i) 254) false) (leb 1 (at image i))
-barredAs image i (Place.Next state a) = leb (nextBelow image state (not (eqb (at image (i - 1)) 254))) (at image i)
-barredAs image i (Place.FenceNext state f) = leb (nextBelow image state (ltb f (upstreamFencesOf image))) (at image i)
+-- "the states (1 to 255)", and so many blocks as they want
+unfoldable pub wrongCount : List ℕ → ℕ → Bool
+wrongCount image states = choose (eqb states 0) true (not (eqb (length image) (512 * blocksFor 1 states)))
+
+-- "a fence byte (a number, FF none, FE refused)": a number names a target fence
+unfoldable pub barredFence : List ℕ → ℕ → ℕ → Bool
+barredFence image state value =
+    choose (ltb state (statesOf image)) (choose (leb (targetFencesOf image) value) (ltb value 254) false) (leb 1 value)
+
+-- value v of byte i is barred, by what stands there
+abbrev pub barredAs : List ℕ → ℕ → ℕ → Place → Bool
+barredAs image i v Place.Number = false
+barredAs image i v Place.Check = false
+barredAs image i v Place.Nothing = leb 1 v
+barredAs image i v Place.Form = not (eqb v 1)
+barredAs image i v Place.Way = ltb 1 v
+barredAs image i v Place.States = wrongCount image v
+barredAs image i v Place.UpstreamFences = ltb 16 v
+barredAs image i v Place.TargetFences = ltb 16 v
+barredAs image i v (Place.UpstreamName k) = barredName image 7 k
+barredAs image i v (Place.TargetName k) = barredName image 23 k
+barredAs image i v (Place.Fence state a) = barredFence image state v
+barredAs image i v (Place.Next state a) = leb (nextBelow image state (not (eqb (at image (i - 1)) 254))) v
+barredAs image i v (Place.FenceNext state f) = leb (nextBelow image state (ltb f (upstreamFencesOf image))) v
 
 unfoldable pub barred : List ℕ → ℕ → Bool
-barred image i = barredAs image i (standsAt 1 i)
+barred image i = barredAs image i (at image i) (standsAt 1 i)
 
 -- by the lowest wrong block and the lowest barred byte
 abbrev pub stages : Found → Found → Verdict

@@ -35,7 +35,7 @@ byte-at-requires c κs = search needs
 
 -- src/reader.rt:56:13
 returns : tie.Need-returns Inv-loop μ-loop
-returns c = ?
+returns c = ended-here _ _ _ _ _ (c .before .before .before .loop .inv .1) (c .before .before .loop-test .taken) (c .before .byte-at .ensures) (c .if1 .taken)
 
 -- src/reader.rt:58:9
 sub-j : tie.Need-sub-j Inv-loop μ-loop
@@ -47,11 +47,11 @@ loop-less c = search needs
 
 -- src/reader.rt:54:5
 loop-again : tie.Need-loop-again Inv-loop μ-loop
-loop-again c = ?
+loop-again c = (omega arith, ended-on _ _ _ _ _ (c .before .before .before .loop .inv .1) (c .before .before .loop-test .taken) (c .before .byte-at .ensures) (c .if1 .left))
 
 -- src/reader.rt:49:1
 returns-2 : tie.Need-returns-2 Inv-loop μ-loop
-returns-2 c = ?
+returns-2 c = ended-none _ _ _ _ (c .before .loop .inv .1) (c .loop-test .left)
 
 pub has-ended-spec : {M : Type 1} → statement M
 has-ended-spec =

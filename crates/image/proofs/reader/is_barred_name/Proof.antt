@@ -1,3 +1,4 @@
+use Rattle.image.proofs.Names.{name-zero, name-good, name-bad}
 use borrow.Author.Needs.{needs}
 use Rattle.image.proofs.reader.is_barred_name.Statement.{statement}
 use Rattle.image.proofs.reader.is_barred_name.Tie as tie
@@ -17,7 +18,7 @@ byte-at-requires c κs = search needs
 
 -- src/reader.rt:69:9
 returns : tie.Need-returns
-returns c = ?
+returns c = name-zero _ _ _ _ (c .before .byte-at .ensures) (c .if1 .taken)
 
 -- src/reader.rt:71:8
 is-name-byte-requires : tie.Need-is-name-byte-requires
@@ -29,11 +30,11 @@ has-ended-requires c κs = search needs
 
 -- src/reader.rt:72:9
 returns-2 : tie.Need-returns-2
-returns-2 c = ?
+returns-2 c = name-good _ _ _ _ (c .before .before .before .before .byte-at .ensures) _ _ (c .before .before .before .if1 .left) (c .before .before .is-name-byte .ensures) (c .before .if2 .taken) (c .has-ended .ensures)
 
 -- src/reader.rt:63:1
 returns-3 : tie.Need-returns-3
-returns-3 c = ?
+returns-3 c = name-bad _ _ _ _ (c .before .before .before .byte-at .ensures) _ (c .before .before .if1 .left) (c .before .is-name-byte .ensures) (c .if2 .left)
 
 pub is-barred-name-spec : {M : Type 1} → statement M
 is-barred-name-spec =

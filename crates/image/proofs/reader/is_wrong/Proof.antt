@@ -20,7 +20,6 @@ add-if1 c = search needs
 
 -- src/reader.rt:93:9
 returns : tie.Need-returns
-unfolding wrong checkOf
 returns c = wrong-short _ _ (c .if1 .taken)
 
 -- src/reader.rt:95:8
@@ -29,8 +28,7 @@ two-bytes-requires c κs = search needs
 
 -- src/reader.rt:96:9
 returns-2 : tie.Need-returns-2
-unfolding wrong checkOf
-returns-2 c = ?
+returns-2 c = wrong-number _ _ (c .before .before .if1 .left) _ (c .before .two-bytes .ensures .0) (c .if2 .taken)
 
 -- src/reader.rt:98:32
 add-two-bytes : tie.Need-add-two-bytes
@@ -46,8 +44,7 @@ check-requires c κs = search needs
 
 -- src/reader.rt:87:1
 returns-3 : tie.Need-returns-3
-unfolding wrong checkOf
-returns-3 c = ?
+returns-3 c = wrong-check _ _ (c .before .before .before .before .if1 .left) _ (c .before .before .before .two-bytes .ensures .0) _ _ (c .before .before .if2 .left) (c .before .two-bytes2 .ensures .0) (c .check .ensures .0)
 
 pub is-wrong-spec : {M : Type 1} → statement M
 is-wrong-spec =

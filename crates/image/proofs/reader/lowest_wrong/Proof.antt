@@ -1,3 +1,4 @@
+use mathlib.Core.Path.{sym, _∙_}
 use Rattle.image.proofs.Lowest.{lowest-here, lowest-on, lowest-none, lowest-start}
 use borrow.Author.Needs.{needs}
 use Prim.Native.Nat.{_-_}
@@ -26,7 +27,7 @@ is-wrong-requires c κs = search needs
 
 -- src/reader.rt:108:13
 returns : tie.Need-returns Inv-loop μ-loop
-returns c = ?
+returns c = lowest-here _ _ _ (c .before .before .before .loop .inv) (search needs) (sym (c .before .is-wrong .ensures) ∙ c .if1 .taken)
 
 -- src/reader.rt:110:9
 add-b : tie.Need-add-b Inv-loop μ-loop
@@ -38,11 +39,11 @@ loop-less c = search needs
 
 -- src/reader.rt:106:5
 loop-again : tie.Need-loop-again Inv-loop μ-loop
-loop-again c = ?
+loop-again c = lowest-on _ _ _ (c .before .before .before .loop .inv) (search needs) (sym (c .before .is-wrong .ensures) ∙ c .if1 .left)
 
 -- src/reader.rt:101:1
 returns-2 : tie.Need-returns-2 Inv-loop μ-loop
-returns-2 c = ?
+returns-2 c = lowest-none _ _ _ (c .before .loop .inv) (c .loop-test .left)
 
 pub lowest-wrong-spec : {M : Type 1} → statement M
 lowest-wrong-spec =
