@@ -5,3 +5,6 @@ pub mod Blocks
 pub mod Names
 pub mod Places
 pub mod Verdicts
+pub mod Fronts
+pub mod Values
+pub mod Sealing
