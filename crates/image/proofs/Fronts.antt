@@ -1,14 +1,16 @@
 -- Lists that are filled from the front. Assumes nothing.
-use Prim.Native.Nat.{ℕ, zero, suc, _+_, _*_, _<_, _≤_}
+use Prim.Native.Nat.{ℕ, zero, suc, _+_, _-_, _*_, _<_, _≤_}
 use mathlib.Core.Path.{_≡_, refl, sym, ap, subst, _∙_}
 use mathlib.Core.List.{List, [], _∷_, _++_}
-use native.Mathlib.Decide.{ℕ-discrete}
+use native.Mathlib.Decide.{ℕ-discrete, decLt}
 use native.Mathlib.Numerals.{add-one}
 use native.Mathlib.Omega.{arith}
-use lib.ListN.{length, getD, set, take, length-append, length-set, length-take, List·getD-append}
-use lib.Seq.{getD-set-same, getD-set-other, getD-at, ext-getD, getD-take, length-take-le}
+use lib.ListN.{length, getD, set, take, drop, length-append, length-set, length-drop, List·getD-append}
+use lib.Seq.{getD-set-same, getD-set-other, getD-at, getD-append-add, getD-drop, ext-getD, getD-take, length-take-le}
+use borrow.Author.Tests.{le-leb}
+use Rattle.answers.specs.Written.{written}
 use Rattle.image.specs.Layout.{at}
-use Rattle.image.specs.Image.{listed, Front}
+use Rattle.image.specs.Image.{listed, Front, Filled}
 
 pub length-listed : (n : ℕ) (f : ℕ → ℕ) → length (listed n f) ≡ n
 unfolding listed
@@ -48,3 +50,45 @@ front-whole {f} {n} {l} r =
 
 pub front-to : {f : ℕ → ℕ} {n : ℕ} {l : List ℕ} → Front f n l → (m : ℕ) → n ≡ m → Front f m l
 front-to {f} {n} {l} r m e = subst (λ (x : ℕ). Front f x l) e r
+
+pub front-all : {f : ℕ → ℕ} {n : ℕ} {l : List ℕ} → Front f n l → length l ≡ n → l ≡ listed n f
+front-all {f} {n} {l} r e = is-listed n f l e (r .front)
+
+pub filled-none : (l : List ℕ) (f : ℕ → ℕ) → Filled l f 0 l
+filled-none l f = record { size = refl; front = front-none f l; rest = λ i h. refl }
+
+pub filled-more : {l : List ℕ} {f : ℕ → ℕ} {n : ℕ} {m : List ℕ} → Filled l f n m → (v : ℕ) → n < length m → v ≡ f n → Filled l f (n + 1) (set m n v)
+filled-more {l} {f} {n} {m} r v h e =
+    record {
+      size = length-set m n v ∙ r .size;
+      front = front-more (r .front) v h e;
+      rest = λ i k. getD-set-other m n i v 0 (λ w. omega arith) ∙ r .rest i (omega arith);
+    }
+
+pub filled-to : {l : List ℕ} {f : ℕ → ℕ} {n : ℕ} {m : List ℕ} → Filled l f n m → (k : ℕ) → n ≡ k → Filled l f k m
+filled-to {l} {f} {n} {m} r k e = subst (λ (x : ℕ). Filled l f x m) e r
+
+-- the values and then what was there
+pub filled-whole : {l : List ℕ} {f : ℕ → ℕ} {n : ℕ} {m : List ℕ} → Filled l f n m → m ≡ written (listed n f) l
+unfolding written
+filled-whole {l} {f} {n} {m} r =
+    let z = length-listed n f in
+    let k : n ≤ length l = omega (arith, r .size, r .front .fits) in
+    rw (le-leb (length (listed n f)) (length l) (omega (arith, z)))
+    (ext-getD 0 m (listed n f ++ drop (length (listed n f)) l) (sized k) (λ i h. go i h (decLt i n)))
+  where
+    sized : n ≤ length l → length m ≡ length (listed n f ++ drop (length (listed n f)) l)
+    sized k = simp (length-append, length-drop, length-listed) (omega (arith, r .size))
+
+    go : (i : ℕ) → i < length m → Dec (i < n) → at m i ≡ at (listed n f ++ drop (length (listed n f)) l) i
+    go i h (yes k) =
+        r .front .front i k ∙ sym (at-listed n f i k)
+        ∙ sym (List·getD-append (listed n f) (drop (length (listed n f)) l) 0 i (omega (arith, length-listed n f)))
+    go i h (no k) =
+        let e : length (listed n f) + (i - length (listed n f)) ≡ i = omega (arith, length-listed n f) in
+        r .rest i (omega arith)
+        ∙ sym
+        (ap (at (listed n f ++ drop (length (listed n f)) l)) (sym e)
+        ∙ getD-append-add (listed n f) (drop (length (listed n f)) l) (i - length (listed n f)) 0
+        ∙ getD-drop (length (listed n f)) l (i - length (listed n f)) 0
+        ∙ ap (at l) e)

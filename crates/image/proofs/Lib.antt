@@ -8,3 +8,5 @@ pub mod Verdicts
 pub mod Fronts
 pub mod Values
 pub mod Sealing
+pub mod Entries
+pub mod Readings

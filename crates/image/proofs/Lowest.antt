@@ -7,7 +7,7 @@ use native.Mathlib.Numerals.{add-one}
 use native.Mathlib.Omega.{arith}
 use borrow.Author.Tests.{eq-eqb, ne-eqb}
 use Rattle.tables.specs.Table.{choose}
-use Rattle.image.specs.declared.reader.Found.{Found}
+use Rattle.image.specs.declared.verdict.Found.{Found}
 use Rattle.image.specs.Barred.{lowest, ended}
 use Rattle.image.specs.Layout.{at}
 

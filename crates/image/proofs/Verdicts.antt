@@ -5,8 +5,8 @@ use mathlib.Core.List.{List}
 use lib.ListN.{length}
 use borrow.Author.Tests.{lt-ltb, le-ltb}
 use Rattle.answers.specs.declared.Refusal.{Refusal}
-use Rattle.image.specs.declared.reader.Found.{Found}
-use Rattle.image.specs.declared.reader.Verdict.{Verdict}
+use Rattle.image.specs.declared.verdict.Found.{Found}
+use Rattle.image.specs.declared.verdict.Verdict.{Verdict}
 use Rattle.image.specs.Layout.{limit}
 use Rattle.image.specs.Barred.{lowest, wrong, barred, blockCount, stages, verdictOf}
 

@@ -13,8 +13,8 @@ use Rattle.answers.specs.declared.Refusal.{Refusal}
 use Rattle.tables.specs.Table.{choose}
 use Rattle.rule.specs.Operation.{within}
 use Rattle.image.specs.declared.layout.Place.{Place}
-use Rattle.image.specs.declared.reader.Found.{Found}
-use Rattle.image.specs.declared.reader.Verdict.{Verdict}
+use Rattle.image.specs.declared.verdict.Found.{Found}
+use Rattle.image.specs.declared.verdict.Verdict.{Verdict}
 use Rattle.image.specs.Checksum.{twoBytes, checksum}
 use Rattle.image.specs.Layout.{accesses, blocksFor, limit, at, standsAt}
 

@@ -13,7 +13,7 @@ use Rattle.answers.specs.Written.{written}
 use Rattle.answers.specs.declared.Refusal.{Refusal}
 use Rattle.tables.specs.Table.{choose}
 use Rattle.image.specs.declared.layout.Place.{Place}
-use Rattle.image.specs.declared.reader.Verdict.{Verdict}
+use Rattle.image.specs.declared.verdict.Verdict.{Verdict}
 use Rattle.image.specs.declared.machine.Header.{Header}
 use Rattle.image.specs.declared.machine.Reading.{Reading}
 use Rattle.image.specs.Checksum.{twoBytes, checksum}
@@ -151,3 +151,9 @@ pub record Front (f : ℕ → ℕ) (n : ℕ) (l : List ℕ) : Type 0 where
 -- a block with its check written to its end
 unfoldable pub sealed : List ℕ → ℕ → List ℕ
 sealed image b = set (set image (512 * b + 510) (checkOf image b / 256)) (512 * b + 511) (checkOf image b % 256)
+
+-- n words of a list are those of f, and the rest is as it was
+pub record Filled (l : List ℕ) (f : ℕ → ℕ) (n : ℕ) (l′ : List ℕ) : Type 0 where
+  pub size : length l′ ≡ length l
+  pub front : Front f n l′
+  pub rest : (i : ℕ) → n ≤ i → at l′ i ≡ at l i

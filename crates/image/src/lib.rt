@@ -3,4 +3,5 @@ mod checksum;
 mod layout;
 pub mod machine;
 pub mod reader;
+pub mod verdict;
 pub mod writer;

@@ -1,239 +1,120 @@
-// Reading an image: what is refused, and where.
+// Reading an image to a machine.
 ghost use mathlib.Core.Path.{_≡_};
-ghost use mathlib.Core.Bool.{not};
-ghost use lib.Dec.{leb, ltb, eqb};
-ghost use Prim.Native.Nat.{_-_, _^_, _<_, _≤_};
+ghost use Prim.Native.Nat.{ℕ, _+_, _*_, _/_, _%_, _^_, _<_, _≤_};
 ghost use lib.ListN.{length};
-ghost use Rattle.image.specs.Layout.{limit, at};
-ghost use Rattle.image.specs.Barred.{lowest, wrong, blockCount, nameByte, ended, wrongCount, barredName, barredFence, nextBelow, barred, stages, verdictOf};
-use crate::checksum;
-use crate::layout;
-use crate::layout::Place;
+ghost use Rattle.image.specs.Layout.{at, position};
+ghost use Rattle.image.specs.Barred.{statesOf};
+ghost use Rattle.image.specs.Image.{listed, stride, headerOf, entryWord, rowsOf, refusedReading, readAs, rowsAs, readingOf, rowsAfter, Front, Filled};
+use crate::machine::Header;
+use crate::machine::Reading;
+use crate::verdict;
+use crate::verdict::Verdict;
 use answers::Refusal;
 
-const LIMIT: usize = 7168;
-
-pub enum Verdict {
-    Accepted,
-    Refused(Refusal),
-}
-
-// The first of some places.
-pub enum Found {
-    At(usize),
-    Nowhere,
-}
-
-// The byte at a place, 0 past the end.
-pub(crate) fn byte_at(image: &[u8], i: usize) -> u8
-    ensures { λ r. ⌜ r ≡ at (now (image .entry)) i ⌝ }
+// Where byte o of a state's entry stands.
+pub(crate) fn position(state: usize, o: usize) -> usize
+    requires { ⌜ (state < 2 ^ 32) × (o < 2 ^ 32) ⌝ }
+    ensures { λ r. ⌜ r ≡ position 1 state o ⌝ }
 {
-    if i < image.len() { image[i] } else { 0 }
+    512 * (1 + state / 21) + 2 + 24 * (state % 21) + o
 }
 
-pub(crate) fn number_at(image: &[u8], i: usize) -> usize
-    ensures { λ r. ⌜ (r ≡ at (now (image .entry)) i) × (r < 256) ⌝ }
+// The word of a state and a letter.
+pub(crate) fn entry_word(image: &[u8], state: usize, letter: usize) -> u16
+    requires { ⌜ (state < 2 ^ 32) × (letter < stride) ⌝ }
+    ensures { λ r. ⌜ r ≡ entryWord (now (image .entry)) state letter ⌝ }
 {
-    checksum::wide(byte_at(image, i))
+    if letter < 4 {
+        let fence = verdict::number_at(image, position(state, 2 * letter));
+        let next = verdict::number_at(image, position(state, 2 * letter + 1));
+        return (256 * fence + next) as u16;
+    }
+    if letter - 4 < verdict::number_at(image, 5) {
+        let next = verdict::number_at(image, position(state, 4 + letter));
+        return (256 * 255 + next) as u16;
+    }
+    0
 }
 
-fn is_name_byte(byte: u8) -> bool
-    ensures { λ r. ⌜ r ≡ nameByte byte ⌝ }
+// Sixteen bytes of an image.
+fn name_at(image: &[u8], from: usize) -> [u8; 16]
+    requires { ⌜ from < 64 ⌝ }
+    ensures { λ r. ⌜ r ≡ listed 16 (λ (k : ℕ). at (now (image .entry)) (from + k)) ⌝ }
 {
-    if byte < b'0' {
-        return false;
+    let mut name = [0u8; 16];
+    let mut k = 0;
+    while k < 16 {
+        name[k] = verdict::byte_at(image, from + k);
+        k += 1;
     }
-    if byte <= b'9' {
-        return true;
-    }
-    if byte < b'A' {
-        return false;
-    }
-    if byte <= b'Z' {
-        return true;
-    }
-    if byte < b'a' {
-        return byte == b'_';
-    }
-    if byte <= b'z' {
-        return true;
-    }
-    false
+    name
 }
 
-// Whether a zero stands among the first k bytes of the name.
-fn has_ended(image: &[u8], from: usize, k: usize) -> bool
-    requires { ⌜ (from < 64) × (k < 64) ⌝ }
-    ensures { λ r. ⌜ r ≡ ended (now (image .entry)) from k ⌝ }
+fn header(image: &[u8]) -> Header
+    ensures { λ r. ⌜ r ≡ headerOf (now (image .entry)) ⌝ }
 {
-    let mut j = k;
-    while 0 < j {
-        if byte_at(image, from + (j - 1)) == 0 {
-            return true;
-        }
-        j -= 1;
-    }
-    false
-}
-
-fn is_barred_name(image: &[u8], from: usize, k: usize) -> bool
-    requires { ⌜ (from < 64) × (k < 64) ⌝ }
-    ensures { λ r. ⌜ r ≡ barredName (now (image .entry)) from k ⌝ }
-{
-    let byte = byte_at(image, from + k);
-    if byte == 0 {
-        return k == 0;
-    }
-    if is_name_byte(byte) {
-        return has_ended(image, from, k);
-    }
-    true
-}
-
-// What a next state must stay below.
-fn next_below(image: &[u8], state: usize, leads: bool) -> usize
-    ensures { λ r. ⌜ (r ≡ nextBelow (now (image .entry)) state leads) × (r < 256) ⌝ }
-{
-    let states = number_at(image, 4);
-    if states <= state {
-        return 1;
-    }
-    if leads { states } else { 1 }
-}
-
-fn is_wrong(image: &[u8], b: usize) -> bool
-    requires { ⌜ b < 2 ^ 50 ⌝ }
-    ensures { λ r. ⌜ r ≡ wrong (now (image .entry)) b ⌝ }
-{
-    let from = 512 * b;
-    if image.len() < from + 512 {
-        return true;
-    }
-    if checksum::two_bytes(image, from) != b {
-        return true;
-    }
-    checksum::two_bytes(image, from + 510) != checksum::check(image, from)
-}
-
-// How many blocks there are by position; an empty image has a broken block 0.
-fn block_count(image: &[u8]) -> usize
-    requires { ⌜ length (now image) ≤ limit ⌝ }
-    ensures { λ r. ⌜ (r ≡ blockCount (now (image .entry))) × (r < 2 ^ 50) ⌝ }
-{
-    if image.len() == 0 {
-        return 1;
-    }
-    (image.len() + 511) / 512
-}
-
-fn lowest_wrong(image: &[u8], count: usize) -> Found
-    requires { ⌜ count < 2 ^ 50 ⌝ }
-    ensures { λ r. ⌜ r ≡ lowest (wrong (now (image .entry))) 0 count ⌝ }
-{
-    let mut b = 0;
-    while b < count {
-        if is_wrong(image, b) {
-            return Found::At(b);
-        }
-        b += 1;
-    }
-    Found::Nowhere
-}
-
-// Whether a block count does not belong to so many states, or there are none.
-fn is_wrong_count(image: &[u8], states: usize) -> bool
-    requires { ⌜ states < 256 ⌝ }
-    ensures { λ r. ⌜ r ≡ wrongCount (now (image .entry)) states ⌝ }
-{
-    if states == 0 {
-        return true;
-    }
-    image.len() != 512 * (1 + (states + 20) / 21)
-}
-
-fn is_barred_fence(image: &[u8], state: usize, value: usize) -> bool
-    ensures { λ r. ⌜ r ≡ barredFence (now (image .entry)) state value ⌝ }
-{
-    if number_at(image, 4) <= state {
-        return 1 <= value;
-    }
-    if number_at(image, 6) <= value {
-        return value < 254;
-    }
-    false
-}
-
-fn is_barred_next(image: &[u8], i: usize, value: usize, state: usize) -> bool
-    requires { ⌜ 0 < i ⌝ }
-    ensures { λ r. ⌜ r ≡ leb (nextBelow (now (image .entry)) state (not (eqb (at (now (image .entry)) (i - 1)) 254))) value ⌝ }
-{
-    let leads = number_at(image, i - 1) != 254;
-    next_below(image, state, leads) <= value
-}
-
-fn is_barred_fence_next(image: &[u8], value: usize, state: usize, f: usize) -> bool
-    ensures { λ r. ⌜ r ≡ leb (nextBelow (now (image .entry)) state (ltb f (at (now (image .entry)) 5))) value ⌝ }
-{
-    let leads = f < number_at(image, 5);
-    next_below(image, state, leads) <= value
-}
-
-fn is_barred(image: &[u8], i: usize) -> bool
-    ensures { λ r. ⌜ r ≡ barred (now (image .entry)) i ⌝ }
-{
-    let value = number_at(image, i);
-    let place = layout::stands_at(i);
-    match place {
-        Place::Number => false,
-        Place::Check => false,
-        Place::Nothing => 1 <= value,
-        Place::Form => value != 1,
-        Place::Way => 1 < value,
-        Place::States => is_wrong_count(image, value),
-        Place::UpstreamFences => 16 < value,
-        Place::TargetFences => 16 < value,
-        Place::UpstreamName(k) => is_barred_name(image, 7, k),
-        Place::TargetName(k) => is_barred_name(image, 23, k),
-        Place::Fence(state, _) => is_barred_fence(image, state, value),
-        Place::Next(state, _) => is_barred_next(image, i, value, state),
-        Place::FenceNext(state, f) => is_barred_fence_next(image, value, state, f),
+    Header {
+        way: verdict::byte_at(image, 3),
+        states: verdict::byte_at(image, 4),
+        ups: verdict::byte_at(image, 5),
+        targets: verdict::byte_at(image, 6),
+        upstream: name_at(image, 7),
+        target: name_at(image, 23),
     }
 }
 
-fn lowest_barred(image: &[u8]) -> Found
-    ensures { λ r. ⌜ r ≡ lowest (barred (now (image .entry))) 0 (length (now (image .entry))) ⌝ }
+fn fill_rows(image: &[u8], rows: &mut [u16], count: usize)
+    requires { ⌜ (count ≤ 5100) × (count ≤ length (now rows)) ⌝ }
+    ensures { λ _. ⌜ Filled (now (rows .entry)) (λ (j : ℕ). entryWord (now (image .entry)) (j / stride) (j % stride)) count (now (rows .exit)) ⌝ }
 {
-    let mut i = 0;
-    while i < image.len() {
-        if is_barred(image, i) {
-            return Found::At(i);
-        }
-        i += 1;
-    }
-    Found::Nowhere
-}
-
-// What is wrong with an image whose blocks are right.
-fn examine_bytes(image: &[u8]) -> Verdict
-    ensures { λ r. ⌜ r ≡ stages Found.Nowhere (lowest (barred (now (image .entry))) 0 (length (now (image .entry)))) ⌝ }
-{
-    let byte = lowest_barred(image);
-    match byte {
-        Found::At(i) => Verdict::Refused(Refusal::BarredValue(i)),
-        Found::Nowhere => Verdict::Accepted,
+    let mut j = 0;
+    while j < count {
+        rows[j] = entry_word(image, j / 20, j % 20);
+        j += 1;
     }
 }
 
-// What is wrong with an image, first of all.
-pub(crate) fn examine(image: &[u8]) -> Verdict
-    ensures { λ r. ⌜ r ≡ verdictOf (now (image .entry)) ⌝ }
+fn refused(why: Refusal) -> Reading
+    ensures { λ r. ⌜ r ≡ refusedReading why ⌝ }
 {
-    if LIMIT < image.len() {
-        return Verdict::Refused(Refusal::OverLimit);
+    let header = Header {
+        way: 0,
+        states: 0,
+        ups: 0,
+        targets: 0,
+        upstream: [0; 16],
+        target: [0; 16],
+    };
+    Reading {
+        verdict: Verdict::Refused(why),
+        header,
     }
-    let block = lowest_wrong(image, block_count(image));
-    match block {
-        Found::At(b) => Verdict::Refused(Refusal::BrokenBlock(b)),
-        Found::Nowhere => examine_bytes(image),
+}
+
+// Of an image that is accepted.
+fn read_accepted(image: &[u8], rows: &mut [u16]) -> Reading
+    ensures answer { λ r. ⌜ r ≡ readAs (now (image .entry)) (length (now (rows .entry))) Verdict.Accepted ⌝ }
+    ensures buffer { λ _. ⌜ now (rows .exit) ≡ rowsAs (now (image .entry)) (now (rows .entry)) Verdict.Accepted ⌝ }
+{
+    let count = verdict::number_at(image, 4) * 20;
+    if rows.len() < count {
+        return refused(Refusal::BufferTooSmall);
+    }
+    fill_rows(image, rows, count);
+    Reading {
+        verdict: Verdict::Accepted,
+        header: header(image),
+    }
+}
+
+// The machine of an image, its rows to the front of `rows`.
+pub fn read(image: &[u8], rows: &mut [u16]) -> Reading
+    ensures answer { λ r. ⌜ r ≡ readingOf (now (image .entry)) (length (now (rows .entry))) ⌝ }
+    ensures buffer { λ _. ⌜ now (rows .exit) ≡ rowsAfter (now (image .entry)) (now (rows .entry)) ⌝ }
+{
+    let verdict = verdict::examine(image);
+    match verdict {
+        Verdict::Refused(why) => refused(why),
+        Verdict::Accepted => read_accepted(image, rows),
     }
 }
