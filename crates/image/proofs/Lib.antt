@@ -10,3 +10,5 @@ pub mod Values
 pub mod Sealing
 pub mod Entries
 pub mod Readings
+pub mod Inverse
+pub mod Accepted

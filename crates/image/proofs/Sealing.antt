@@ -20,7 +20,7 @@ module _ (h : Header) (rows : List ℕ) where
   byte-content i l = rw (lt-ltb _ _ l)
 
   -- the check of a block by what is written to it
-  pub written-check : ℕ → ℕ
+  unfoldable pub written-check : ℕ → ℕ
   written-check b = checksum 255 (λ (p : ℕ). valueAt h rows (512 * b + p))
 
   pub byte-high : (b : ℕ) → byteAt h rows (512 * b + 510) ≡ written-check b / 256
