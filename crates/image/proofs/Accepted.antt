@@ -2,12 +2,13 @@
 use Prim.Native.Nat.{ℕ, suc, _+_, _-_, _*_, _/_, _%_, _<_, _≤_, max}
 use mathlib.Core.Path.{_≡_, refl, sym, ap, ap₂, subst, _∙_}
 use mathlib.Core.Bool.{Bool, true, false, not}
+use mathlib.Core.Logic.{_⊎_, inl, inr}
 use mathlib.Core.List.{List}
 use native.Mathlib.Decide.{ℕ-discrete, decLt}
 use native.Mathlib.Omega.{arith}
 use lib.Dec.{leb, ltb, eqb}
 use lib.ListN.{length}
-use borrow.Author.Tests.{lt-ltb, le-ltb, eq-eqb, ne-eqb, ltb-true, ltb-false, leb-false, eqb-true, eqb-false}
+use borrow.Author.Tests.{lt-ltb, le-ltb, le-leb, eq-eqb, ne-eqb, ltb-false, leb-false, eqb-true, eqb-false}
 use Rattle.tables.specs.Table.{choose}
 use Rattle.answers.specs.declared.Refusal.{Refusal}
 use Rattle.image.specs.declared.layout.Place.{Place}
@@ -16,11 +17,12 @@ use Rattle.image.specs.declared.verdict.Verdict.{Verdict}
 use Rattle.image.specs.declared.machine.Header.{Header}
 use Rattle.image.specs.Checksum.{twoBytes}
 use Rattle.image.specs.Layout.{limit, blocksFor, at, standsAt, position}
-use Rattle.image.specs.Barred.{lowest, wrong, checkOf, blockCount, wrongCount, barredFence, nextBelow, statesOf, upstreamFencesOf, barredAs, barred, stages, verdictOf}
-use Rattle.image.specs.Image.{listed, stride, word, half, used, valueAs, valueAt, byteAt, sizeOf, imageOf, headerOf, entryWord, rowsOf}
+use Rattle.image.specs.Barred.{lowest, wrong, checkOf, blockCount, wrongCount, barredFence, nextBelow, statesOf, upstreamFencesOf, targetFencesOf, barredAs, barred, stages, verdictOf}
+use Rattle.image.specs.Image.{listed, stride, word, half, used, valueAs, valueAt, byteAt, sizeOf, imageOf, headerOf, entryWord, rowsOf, AccessWord, Canonical}
 use Rattle.image.proofs.Inverse.{true-false, neither, chosen, equal, nowhere}
 use Rattle.image.proofs.Fronts.{length-listed, at-listed, is-listed}
-use Rattle.image.proofs.Places.{Stands, stands}
+use Rattle.image.proofs.Places.{Stands, stands, fence-at, next-at, onward-at, upstream-at, target-at, within-image}
+use Rattle.image.proofs.NameFields.{good-field}
 use Rattle.image.proofs.Sums.{check-same}
 use Rattle.image.proofs.Sealing.{byte-content, written-check, byte-high, byte-low}
 
@@ -143,9 +145,6 @@ module _ (image : List ℕ) (bytes : (i : ℕ) → at image i < 256) (right : Ri
   unfolding half
   number-same i l u = go (ℕ-discrete (i % 2) 0)
     where
-      b : ℕ
-      b = i / 512
-
       go : Dec (i % 2 ≡ 0) → choose (eqb (i % 2) 0) (i / 512 / 256) (i / 512 % 256) ≡ at image i
       go (yes e) =
           let k : 512 * (i / 512) ≡ i = omega arith in
@@ -233,9 +232,6 @@ module _ (image : List ℕ) (bytes : (i : ℕ) → at image i < 256) (right : Ri
   byte-same : (i : ℕ) → i < length image → byteAt (headerOf image) (rowsOf image) i ≡ at image i
   byte-same i l = go (decLt (i % 512) 510) (ℕ-discrete (i % 512) 510)
     where
-      h : Header
-      h = headerOf image
-
       go : Dec (i % 512 < 510) → Dec (i % 512 ≡ 510) → byteAt (headerOf image) (rowsOf image) i ≡ at image i
       go (yes u) d = byte-content (headerOf image) (rowsOf image) i u ∙ value-same i l u
       go (no u) (yes d) =
@@ -252,3 +248,101 @@ module _ (image : List ℕ) (bytes : (i : ℕ) → at image i < 256) (right : Ri
   pub image-same : imageOf (headerOf image) (rowsOf image) ≡ image
   unfolding imageOf headerOf
   image-same = sym (is-listed _ _ image length-is (λ i l. sym (byte-same i (omega (arith, length-is)))))
+
+  -- what was read is a machine of the layout
+
+  rule-at : (i : ℕ) (place : Place) → i < length image → standsAt 1 i ≡ place → barredAs image i (at image i) place ≡ false
+  rule-at i place l e = subst (λ (p : Place). barredAs image i (at image i) p ≡ false) e (unbarred i l)
+
+  in-entry : (s o : ℕ) → s < statesOf image → o < 24 → position 1 s o < length image
+  in-entry s o l k = omega (arith, length-is, within-image s o (statesOf image) l k)
+
+  fence-kept : (s v : ℕ) → s < statesOf image → v < 256 → barredFence image s v ≡ false
+      → (v ≡ 254) ⊎ ((v < targetFencesOf image) ⊎ (v ≡ 255))
+  unfolding barredFence
+  fence-kept s v l u e = go (decLt v (targetFencesOf image)) (decLt v 254) (ℕ-discrete v 254)
+    where
+      open-e : choose (leb (targetFencesOf image) v) (ltb v 254) false ≡ false
+      open-e = rw (lt-ltb s (statesOf image) l) at e
+
+      go : Dec (v < targetFencesOf image) → Dec (v < 254) → Dec (v ≡ 254) → (v ≡ 254) ⊎ ((v < targetFencesOf image) ⊎ (v ≡ 255))
+      go (yes k) c d = inr (inl k)
+      go (no k) (yes c) d =
+          true-false (rw (le-leb (targetFencesOf image) v (omega arith), lt-ltb v 254 c) at open-e)
+      go (no k) (no c) (yes d) = inl d
+      go (no k) (no c) (no d) = inr (inr (omega arith))
+
+  next-kept : (s v : ℕ) → s < statesOf image → leb (nextBelow image s true) v ≡ false → v < statesOf image
+  unfolding nextBelow
+  next-kept s v l e = leb-false (statesOf image) v (rw (lt-ltb s (statesOf image) l) at e)
+
+  access-kept : (s a : ℕ) → s < statesOf image → a < 4 → AccessWord (headerOf image) (word (rowsOf image) s a)
+  unfolding headerOf
+  access-kept s a l k = go (ℕ-discrete x 254) (fence-kept s x l (bytes _) (rule-at _ _ (in-entry s (2 * a) l (omega arith)) (fence-at s a k)))
+    where
+      x : ℕ
+      x = at image (position 1 s (2 * a))
+
+      y : ℕ
+      y = at image (position 1 s (2 * a + 1))
+
+      w : word (rowsOf image) s a ≡ 256 * x + y
+      w = access-word s a l k
+
+      before : position 1 s (2 * a + 1) - 1 ≡ position 1 s (2 * a)
+      before = omega arith
+
+      rule : leb (nextBelow image s (not (eqb x 254))) y ≡ false
+      rule =
+          subst (λ (i : ℕ). leb (nextBelow image s (not (eqb (at image i) 254))) y ≡ false) before
+          (rule-at _ _ (in-entry s (2 * a + 1) l (omega arith)) (next-at s a k))
+
+      high : word (rowsOf image) s a / 256 ≡ x
+      high = omega (arith, w, bytes (position 1 s (2 * a + 1)))
+
+      low : word (rowsOf image) s a % 256 ≡ y
+      low = omega (arith, w, bytes (position 1 s (2 * a + 1)))
+
+      below : (x ≡ 254 → ⊥) → word (rowsOf image) s a % 256 < statesOf image
+      below e =
+          omega
+          (arith, low, next-kept s y l (subst (λ (t : Bool). leb (nextBelow image s t) y ≡ false) (ap not (ne-eqb x 254 e)) rule))
+
+      go : Dec (x ≡ 254) → (x ≡ 254) ⊎ ((x < targetFencesOf image) ⊎ (x ≡ 255))
+          → ((word (rowsOf image) s a / 256 ≡ 254) × (word (rowsOf image) s a % 256 ≡ 0))
+          ⊎ (((word (rowsOf image) s a / 256 < targetFencesOf image) ⊎ (word (rowsOf image) s a / 256 ≡ 255))
+          × (word (rowsOf image) s a % 256 < statesOf image))
+      go (yes e) c = inl (high ∙ e, low ∙ next-nowhere s y _ l (ap not (eq-eqb x 254 e)) rule)
+      go (no e) (inl c) = absurd (e c)
+      go (no e) (inr (inl c)) = inr (inl (omega (arith, high)), below e)
+      go (no e) (inr (inr c)) = inr (inr (high ∙ c), below e)
+
+  fences-kept : (s f : ℕ) → s < statesOf image → f < upstreamFencesOf image → upstreamFencesOf image ≤ 16
+      → (word (rowsOf image) s (4 + f) / 256 ≡ 255) × (word (rowsOf image) s (4 + f) % 256 < statesOf image)
+  fences-kept s f l k u =
+      let w = word-is s (4 + f) l (omega arith) ∙ fence-is s f k in
+      let r = rule-at _ _ (in-entry s (8 + f) l (omega arith)) (onward-at s f (omega arith)) in
+      let n =
+          next-kept s (at image (position 1 s (8 + f))) l
+          (subst (λ (t : Bool). leb (nextBelow image s t) (at image (position 1 s (8 + f))) ≡ false) (lt-ltb f (upstreamFencesOf image) k) r) in (
+        omega (arith, w, bytes (position 1 s (8 + f))),
+        omega (arith, w, bytes (position 1 s (8 + f)), n),
+      )
+
+  pub canonical-read : Canonical (headerOf image) (rowsOf image)
+  unfolding headerOf standsAt
+  canonical-read =
+      let f = first-block in
+      let u = ltb-false 16 (upstreamFencesOf image) (rule-at 5 Place.UpstreamFences (omega arith) refl) in
+      record {
+        way = ltb-false 1 (at image 3) (rule-at 3 Place.Way (omega arith) refl);
+        some = some-states;
+        states = omega (arith, bytes 4);
+        ups = u;
+        targets = ltb-false 16 (targetFencesOf image) (rule-at 6 Place.TargetFences (omega arith) refl);
+        upstream = good-field image 7 (λ k l. rule-at (7 + k) (Place.UpstreamName k) (omega arith) (upstream-at k l));
+        target = good-field image 23 (λ k l. rule-at (23 + k) (Place.TargetName k) (omega arith) (target-at k l));
+        accesses = access-kept;
+        fences = λ s g l k. fences-kept s g l k u;
+        absent = λ s g l k m. word-is s (4 + g) l (omega arith) ∙ absent-is s g k;
+      }

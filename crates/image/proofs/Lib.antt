@@ -12,3 +12,4 @@ pub mod Entries
 pub mod Readings
 pub mod Inverse
 pub mod Accepted
+pub mod NameFields

@@ -10,7 +10,7 @@ use Rattle.tables.specs.Table.{choose}
 use Rattle.image.specs.declared.layout.Place.{Place}
 use mathlib.Core.List.{List}
 use Rattle.image.specs.Barred.{barredAs, barred}
-use Rattle.image.specs.Layout.{at, position, headerPlace, entryPlace, contentPlace, standsAt}
+use Rattle.image.specs.Layout.{blocksFor, at, position, headerPlace, entryPlace, contentPlace, standsAt}
 
 -- byte i is of this place
 abbrev pub Stands : ℕ → Place → Type 0
@@ -80,3 +80,55 @@ pub barred-as : (image : List ℕ) (i v : ℕ) (place other : Place) (r : Bool) 
     → r ≡ barredAs image i v other → r ≡ barred image i
 unfolding barred
 barred-as image i v place other r value e h b = b ∙ ap₂ (barredAs image i) value (sym h ∙ e)
+
+-- what stands at a byte of an entry, and that it is within the image
+pub entry-at : (s o : ℕ) → o < 24 → standsAt 1 (position 1 s o) ≡ entryPlace 1 s o
+unfolding standsAt
+entry-at s o l =
+    let b : position 1 s o / 512 ≡ 1 + s / 21 = omega arith in
+    let p : position 1 s o % 512 ≡ 2 + (24 * (s % 21) + o) = omega arith in
+    let q : (1 + s / 21 - 1) * 21 + (2 + (24 * (s % 21) + o) - 2) / 24 ≡ s = omega arith in
+    let r : (2 + (24 * (s % 21) + o) - 2) % 24 ≡ o = omega arith in
+    rw
+    (b, p, le-ltb (2 + (24 * (s % 21) + o)) 2 (omega arith), lt-ltb (2 + (24 * (s % 21) + o)) 506 (omega arith),
+    ne-eqb (1 + s / 21) 0 (λ e. omega arith), q, r)
+
+pub fence-at : (s a : ℕ) → a < 4 → standsAt 1 (position 1 s (2 * a)) ≡ Place.Fence s a
+fence-at s a l =
+    let h : 2 * a / 2 ≡ a = omega arith in
+    entry-at s (2 * a) (omega arith) ∙ rw (lt-ltb (2 * a) 8 (omega arith), eq-eqb (2 * a % 2) 0 (omega arith), h)
+
+pub next-at : (s a : ℕ) → a < 4 → standsAt 1 (position 1 s (2 * a + 1)) ≡ Place.Next s a
+next-at s a l =
+    let h : (2 * a + 1) / 2 ≡ a = omega arith in
+    entry-at s (2 * a + 1) (omega arith)
+    ∙ rw (lt-ltb (2 * a + 1) 8 (omega arith), ne-eqb ((2 * a + 1) % 2) 0 (λ e. omega arith), h)
+
+pub onward-at : (s f : ℕ) → f < 16 → standsAt 1 (position 1 s (8 + f)) ≡ Place.FenceNext s f
+onward-at s f l =
+    let h : 8 + f - 8 ≡ f = omega arith in
+    entry-at s (8 + f) (omega arith) ∙ rw (le-ltb (8 + f) 8 (omega arith), h)
+
+pub upstream-at : (k : ℕ) → k < 16 → standsAt 1 (7 + k) ≡ Place.UpstreamName k
+unfolding standsAt
+upstream-at k l =
+    let b : (7 + k) / 512 ≡ 0 = omega arith in
+    let p : (7 + k) % 512 ≡ 7 + k = omega arith in
+    let h : 7 + k - 7 ≡ k = omega arith in
+    rw
+    (b, p, le-ltb (7 + k) 2 (omega arith), lt-ltb (7 + k) 506 (omega arith), le-ltb (7 + k) 3 (omega arith), le-ltb (7 + k) 4 (omega arith),
+    le-ltb (7 + k) 5 (omega arith), le-ltb (7 + k) 6 (omega arith), le-ltb (7 + k) 7 (omega arith), lt-ltb (7 + k) 23 (omega arith), h)
+
+pub target-at : (k : ℕ) → k < 16 → standsAt 1 (23 + k) ≡ Place.TargetName k
+unfolding standsAt
+target-at k l =
+    let b : (23 + k) / 512 ≡ 0 = omega arith in
+    let p : (23 + k) % 512 ≡ 23 + k = omega arith in
+    let h : 23 + k - 23 ≡ k = omega arith in
+    rw
+    (b, p, le-ltb (23 + k) 2 (omega arith), lt-ltb (23 + k) 506 (omega arith), le-ltb (23 + k) 3 (omega arith), le-ltb (23 + k) 4 (omega arith),
+    le-ltb (23 + k) 5 (omega arith), le-ltb (23 + k) 6 (omega arith), le-ltb (23 + k) 7 (omega arith), le-ltb (23 + k) 23 (omega arith),
+    lt-ltb (23 + k) 39 (omega arith), h)
+
+pub within-image : (s o n : ℕ) → s < n → o < 24 → position 1 s o < 512 * blocksFor 1 n
+within-image s o n l k = omega arith
