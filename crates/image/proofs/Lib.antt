@@ -13,3 +13,4 @@ pub mod Readings
 pub mod Inverse
 pub mod Accepted
 pub mod NameFields
+pub mod Canonicals

@@ -25,15 +25,15 @@ Stands i (Place.TargetName k) = (i ≡ 23 + k) × (k < 16)
 Stands i (Place.Fence s a) = (i ≡ position 1 s (2 * a)) × (a < 4)
 Stands i (Place.Next s a) = (i ≡ position 1 s (2 * a + 1)) × (a < 4)
 Stands i (Place.FenceNext s f) = (i ≡ position 1 s (8 + f)) × (f < 16)
-Stands i Place.Nothing = 2 ≤ i % 512
+Stands i Place.Nothing = (2 ≤ i % 512) × (i % 512 < 510)
 Stands i Place.Check = 510 ≤ i % 512
 
 pub by-test : {A : Type 0} (P : A → Type 0) (t : Bool) (x y : A) → (t ≡ true → P x) → (t ≡ false → P y) → P (choose t x y)
 by-test P true x y f g = f refl
 by-test P false x y f g = g refl
 
-header-stands : (i p : ℕ) → i ≡ p → p ≡ i % 512 → 2 ≤ p → Stands i (headerPlace p)
-header-stands i p e m l =
+header-stands : (i p : ℕ) → i ≡ p → p ≡ i % 512 → 2 ≤ p → p < 506 → Stands i (headerPlace p)
+header-stands i p e m l u =
     by-test (Stands i) (ltb p 3) _ _ (λ h. omega (arith, ltb-true p 3 h)) λ h3.
     by-test (Stands i) (ltb p 4) _ _ (λ h. omega (arith, ltb-true p 4 h, ltb-false p 3 h3)) λ h4.
     by-test (Stands i) (ltb p 5) _ _ (λ h. omega (arith, ltb-true p 5 h, ltb-false p 4 h4)) λ h5.
@@ -63,13 +63,13 @@ stands i =
     (λ h.
         by-test (Stands i) (eqb (i / 512) 0) _ _
         (λ w.
-            header-stands i (i % 512) (omega (arith, eqb-true (i / 512) 0 w)) refl (ltb-false (i % 512) 2 h2))
+            header-stands i (i % 512) (omega (arith, eqb-true (i / 512) 0 w)) refl (ltb-false (i % 512) 2 h2) (ltb-true (i % 512) 506 h))
         (λ w.
             let z = eqb-false (i / 512) 0 w in
             entry-stands i _ _
             (located i (i / 512) (i % 512) refl refl (omega (arith, z)) (ltb-false (i % 512) 2 h2) (ltb-true (i % 512) 506 h))
             (mod-lt (i % 512 - 2) (omega arith)))) λ h506.
-    by-test (Stands i) (ltb (i % 512) 510) _ _ (λ h. omega (arith, ltb-false (i % 512) 2 h2)) (λ h. ltb-false (i % 512) 510 h)
+    by-test (Stands i) (ltb (i % 512) 510) _ _ (λ h. (ltb-false (i % 512) 2 h2, ltb-true (i % 512) 510 h)) (λ h. ltb-false (i % 512) 510 h)
 
 -- what a place says of its byte
 pub stands-at : (i : ℕ) (place other : Place) → place ≡ standsAt 1 i → place ≡ other → Stands i other
@@ -132,3 +132,12 @@ target-at k l =
 
 pub within-image : (s o n : ℕ) → s < n → o < 24 → position 1 s o < 512 * blocksFor 1 n
 within-image s o n l k = omega arith
+
+pub number-at : (i : ℕ) → i % 512 < 2 → standsAt 1 i ≡ Place.Number
+unfolding standsAt
+number-at i l = rw (lt-ltb _ _ l)
+
+pub entry-inside : (s o : ℕ) → o < 24 → position 1 s o % 512 < 510
+entry-inside s o l =
+    let p : position 1 s o % 512 ≡ 2 + (24 * (s % 21) + o) = omega arith in
+    omega arith
