@@ -14,3 +14,5 @@ pub mod Inverse
 pub mod Accepted
 pub mod NameFields
 pub mod Canonicals
+pub mod Steps
+pub mod Runs

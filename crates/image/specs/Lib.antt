@@ -2,3 +2,4 @@ pub mod Checksum
 pub mod Layout
 pub mod Barred
 pub mod Image
+pub mod Run

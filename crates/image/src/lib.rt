@@ -3,5 +3,6 @@ mod checksum;
 mod layout;
 pub mod machine;
 pub mod reader;
+pub mod run;
 pub mod verdict;
 pub mod writer;
