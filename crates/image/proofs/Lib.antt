@@ -16,3 +16,4 @@ pub mod NameFields
 pub mod Canonicals
 pub mod Steps
 pub mod Runs
+pub mod Endings

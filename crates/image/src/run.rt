@@ -149,7 +149,7 @@ fn put(p: Progress, byte: u8, taken: Move, room: &mut [u8]) -> Progress
 }
 
 // The run from a state, its output to the front of `room`.
-fn run_all(image: &[u8], start: usize, stream: &[u8], room: &mut [u8]) -> Ending
+fn run_all<'a>(image: &'a [u8], start: usize, stream: &'a [u8], room: &mut [u8]) -> Ending
     requires { ⌜ (start < 256) × (length (now stream) ≤ 4096) × (length (now room) ≡ 8192) ⌝ }
     ensures { λ r. ⌜ Ends (ran (now (image .entry)) start (now (stream .entry))) r (now (room .exit)) ⌝ }
 {
@@ -171,4 +171,58 @@ fn run_all(image: &[u8], start: usize, stream: &[u8], room: &mut [u8]) -> Ending
         i += 1;
     }
     Ending::Ended(p)
+}
+
+fn refusal(why: Stop, i: usize) -> Refusal
+    ensures { λ r. ⌜ r ≡ refusalOf why i ⌝ }
+{
+    match why {
+        Stop::NoOperation => Refusal::NoOperation(i),
+        Stop::NoSuchFence => Refusal::NoSuchFence(i),
+        Stop::NoFenceWillDo => Refusal::NoFenceWillDo(i),
+    }
+}
+
+// The output is made apart, so that a refused run writes nothing.
+fn run_from<'a>(image: &'a [u8], start: usize, stream: &'a [u8], out: &mut [u8]) -> Answer
+    requires { ⌜ (start < 256) × (length (now stream) ≤ 4096) ⌝ }
+    ensures answer { λ r. ⌜ r ≡ answerOf (outcomeOf (ran (now (image .entry)) start (now (stream .entry)))) (length (now (out .entry))) ⌝ }
+    ensures buffer { λ _. ⌜ now (out .exit) ≡ bufferOf (outcomeOf (ran (now (image .entry)) start (now (stream .entry)))) (now (out .entry)) ⌝ }
+{
+    let mut room = [0u8; 8192];
+    let ending = run_all(image, start, stream, &mut room);
+    match ending {
+        Ending::Stopped(why, i) => Answer::Refused(refusal(why, i)),
+        Ending::Ended(p) => {
+            let n = p.written;
+            answers::write_out(&room[..n], p.fences, p.state, out)
+        }
+    }
+}
+
+// Over an image that is accepted.
+fn run_accepted<'a>(image: &'a [u8], start: u64, stream: &'a [u8], out: &mut [u8]) -> Answer
+    ensures answer { λ r. ⌜ r ≡ answerOf (runAs (now (image .entry)) start (now (stream .entry)) Verdict.Accepted) (length (now (out .entry))) ⌝ }
+    ensures buffer { λ _. ⌜ now (out .exit) ≡ bufferOf (runAs (now (image .entry)) start (now (stream .entry)) Verdict.Accepted) (now (out .entry)) ⌝ }
+{
+    let states = verdict::number_at(image, 4);
+    if states as u64 <= start {
+        return Answer::Refused(Refusal::OutOfRange);
+    }
+    if 4096 < stream.len() {
+        return Answer::Refused(Refusal::OverLimit);
+    }
+    run_from(image, start as usize, stream, out)
+}
+
+// Runs a stream over an image from a state.
+pub fn run<'a>(image: &'a [u8], start: u64, stream: &'a [u8], out: &mut [u8]) -> Answer
+    ensures answer { λ r. ⌜ r ≡ answerOf (runOver (now (image .entry)) start (now (stream .entry))) (length (now (out .entry))) ⌝ }
+    ensures buffer { λ _. ⌜ now (out .exit) ≡ bufferOf (runOver (now (image .entry)) start (now (stream .entry))) (now (out .entry)) ⌝ }
+{
+    let verdict = verdict::examine(image);
+    match verdict {
+        Verdict::Refused(why) => Answer::Refused(why),
+        Verdict::Accepted => run_accepted(image, start, stream, out),
+    }
 }
