@@ -323,8 +323,8 @@ module _ (image : List ℕ) (bytes : (i : ℕ) → at image i < 256) (right : Ri
       let w = word-is s (4 + f) l (omega arith) ∙ fence-is s f k in
       let r = rule-at _ _ (in-entry s (8 + f) l (omega arith)) (onward-at s f (omega arith)) in
       let n =
-          next-kept s (at image (position 1 s (8 + f))) l
-          (subst (λ (t : Bool). leb (nextBelow image s t) (at image (position 1 s (8 + f))) ≡ false) (lt-ltb f (upstreamFencesOf image) k) r) in (
+      next-kept s (at image (position 1 s (8 + f))) l
+      (subst (λ (t : Bool). leb (nextBelow image s t) (at image (position 1 s (8 + f))) ≡ false) (lt-ltb f (upstreamFencesOf image) k) r) in (
         omega (arith, w, bytes (position 1 s (8 + f))),
         omega (arith, w, bytes (position 1 s (8 + f)), n),
       )

@@ -100,11 +100,12 @@ module _ (h : Header) (rows : List ℕ) (can : Canonical h rows) where
   unfolding wrong
   no-wrong b l =
       let u : 512 * b + 512 ≤ sizeOf h = omega (arith, length-image) in
-      rw
-      (le-ltb (length (imageOf h rows)) (512 * b + 512) (omega (arith, length-image)),
-      eq-eqb (twoBytes (at (imageOf h rows) (512 * b)) (at (imageOf h rows) (512 * b + 1))) b (omega (arith, number-high b u, number-low b u)),
-      eq-eqb (twoBytes (at (imageOf h rows) (512 * b + 510)) (at (imageOf h rows) (512 * b + 510 + 1))) (checkOf (imageOf h rows) b)
-      (check-stored b u ∙ sym (check-image b u)))
+      rw (
+        le-ltb (length (imageOf h rows)) (512 * b + 512) (omega (arith, length-image)),
+        eq-eqb (twoBytes (at (imageOf h rows) (512 * b)) (at (imageOf h rows) (512 * b + 1))) b (omega (arith, number-high b u, number-low b u)),
+        eq-eqb (twoBytes (at (imageOf h rows) (512 * b + 510)) (at (imageOf h rows) (512 * b + 510 + 1))) (checkOf (imageOf h rows) b)
+            (check-stored b u ∙ sym (check-image b u)),
+      )
 
   -- no byte is barred
 
@@ -229,10 +230,11 @@ module _ (h : Header) (rows : List ℕ) (can : Canonical h rows) where
   pub canonical-accepted : verdictOf (imageOf h rows) ≡ Verdict.Accepted
   unfolding verdictOf
   canonical-accepted =
-      rw
-      (le-ltb limit (length (imageOf h rows)) (omega (arith, length-image, can .states)),
-      all-nowhere (wrong (imageOf h rows)) (blockCount (imageOf h rows)) 0 (λ b k l. no-wrong b (omega arith)),
-      all-nowhere (barred (imageOf h rows)) (length (imageOf h rows)) 0 (λ i k l. no-barred i (omega arith)))
+      rw (
+        le-ltb limit (length (imageOf h rows)) (omega (arith, length-image, can .states)),
+        all-nowhere (wrong (imageOf h rows)) (blockCount (imageOf h rows)) 0 (λ b k l. no-wrong b (omega arith)),
+        all-nowhere (barred (imageOf h rows)) (length (imageOf h rows)) 0 (λ i k l. no-barred i (omega arith)),
+      )
 
   -- and reads as the same machine
   pub same-header : headerOf (imageOf h rows) ≡ h
@@ -288,8 +290,8 @@ module _ (h : Header) (rows : List ℕ) (can : Canonical h rows) where
   same-rows =
       is-listed _ _ _ (length-listed _ _ ∙ ap (λ (n : ℕ). n * stride) states-image)
       (λ j l.
-          let e : j / stride * stride + j % stride ≡ j = omega arith in
-          at-listed _ _ j (omega (arith, states-image)) ∙ same-word (j / stride) (j % stride) (omega arith) (omega arith) ∙ ap (at rows) e)
+      let e : j / stride * stride + j % stride ≡ j = omega arith in
+      at-listed _ _ j (omega (arith, states-image)) ∙ same-word (j / stride) (j % stride) (omega arith) (omega arith) ∙ ap (at rows) e)
 
   pub same-rows-taken : h .states * stride ≤ length rows → rowsOf (imageOf h rows) ≡ take (h .states * stride) rows
   same-rows-taken l = same-rows ∙ sym (front-whole (record { fits = l; front = λ i k. refl }))

@@ -17,3 +17,4 @@ pub mod Canonicals
 pub mod Steps
 pub mod Runs
 pub mod Endings
+pub mod Theorems

@@ -47,8 +47,8 @@ entry-stands : (i s o : ℕ) → i ≡ position 1 s o → o < 24 → Stands i (e
 entry-stands i s o e l =
     by-test (Stands i) (ltb o 8) _ _
     (λ h.
-        by-test (Stands i) (eqb (o % 2) 0) _ _ (λ w. omega (arith, ltb-true o 8 h, eqb-true (o % 2) 0 w))
-        (λ w. omega (arith, ltb-true o 8 h, eqb-false (o % 2) 0 w)))
+    by-test (Stands i) (eqb (o % 2) 0) _ _ (λ w. omega (arith, ltb-true o 8 h, eqb-true (o % 2) 0 w))
+    (λ w. omega (arith, ltb-true o 8 h, eqb-false (o % 2) 0 w)))
     (λ h. omega (arith, ltb-false o 8 h))
 
 -- the state and the byte of its entry, of byte p of block b
@@ -61,14 +61,14 @@ stands i =
     by-test (Stands i) (ltb (i % 512) 2) _ _ (λ h. omega (arith, ltb-true (i % 512) 2 h)) λ h2.
     by-test (Stands i) (ltb (i % 512) 506) _ _
     (λ h.
-        by-test (Stands i) (eqb (i / 512) 0) _ _
-        (λ w.
-            header-stands i (i % 512) (omega (arith, eqb-true (i / 512) 0 w)) refl (ltb-false (i % 512) 2 h2) (ltb-true (i % 512) 506 h))
-        (λ w.
-            let z = eqb-false (i / 512) 0 w in
-            entry-stands i _ _
-            (located i (i / 512) (i % 512) refl refl (omega (arith, z)) (ltb-false (i % 512) 2 h2) (ltb-true (i % 512) 506 h))
-            (mod-lt (i % 512 - 2) (omega arith)))) λ h506.
+    by-test (Stands i) (eqb (i / 512) 0) _ _
+    (λ w.
+    header-stands i (i % 512) (omega (arith, eqb-true (i / 512) 0 w)) refl (ltb-false (i % 512) 2 h2) (ltb-true (i % 512) 506 h))
+    (λ w.
+    let z = eqb-false (i / 512) 0 w in
+    entry-stands i _ _
+    (located i (i / 512) (i % 512) refl refl (omega (arith, z)) (ltb-false (i % 512) 2 h2) (ltb-true (i % 512) 506 h))
+    (mod-lt (i % 512 - 2) (omega arith)))) λ h506.
     by-test (Stands i) (ltb (i % 512) 510) _ _ (λ h. (ltb-false (i % 512) 2 h2, ltb-true (i % 512) 510 h)) (λ h. ltb-false (i % 512) 510 h)
 
 -- what a place says of its byte
@@ -89,9 +89,15 @@ entry-at s o l =
     let p : position 1 s o % 512 ≡ 2 + (24 * (s % 21) + o) = omega arith in
     let q : (1 + s / 21 - 1) * 21 + (2 + (24 * (s % 21) + o) - 2) / 24 ≡ s = omega arith in
     let r : (2 + (24 * (s % 21) + o) - 2) % 24 ≡ o = omega arith in
-    rw
-    (b, p, le-ltb (2 + (24 * (s % 21) + o)) 2 (omega arith), lt-ltb (2 + (24 * (s % 21) + o)) 506 (omega arith),
-    ne-eqb (1 + s / 21) 0 (λ e. omega arith), q, r)
+    rw (
+      b,
+      p,
+      le-ltb (2 + (24 * (s % 21) + o)) 2 (omega arith),
+      lt-ltb (2 + (24 * (s % 21) + o)) 506 (omega arith),
+      ne-eqb (1 + s / 21) 0 (λ e. omega arith),
+      q,
+      r,
+    )
 
 pub fence-at : (s a : ℕ) → a < 4 → standsAt 1 (position 1 s (2 * a)) ≡ Place.Fence s a
 fence-at s a l =
@@ -115,9 +121,19 @@ upstream-at k l =
     let b : (7 + k) / 512 ≡ 0 = omega arith in
     let p : (7 + k) % 512 ≡ 7 + k = omega arith in
     let h : 7 + k - 7 ≡ k = omega arith in
-    rw
-    (b, p, le-ltb (7 + k) 2 (omega arith), lt-ltb (7 + k) 506 (omega arith), le-ltb (7 + k) 3 (omega arith), le-ltb (7 + k) 4 (omega arith),
-    le-ltb (7 + k) 5 (omega arith), le-ltb (7 + k) 6 (omega arith), le-ltb (7 + k) 7 (omega arith), lt-ltb (7 + k) 23 (omega arith), h)
+    rw (
+      b,
+      p,
+      le-ltb (7 + k) 2 (omega arith),
+      lt-ltb (7 + k) 506 (omega arith),
+      le-ltb (7 + k) 3 (omega arith),
+      le-ltb (7 + k) 4 (omega arith),
+      le-ltb (7 + k) 5 (omega arith),
+      le-ltb (7 + k) 6 (omega arith),
+      le-ltb (7 + k) 7 (omega arith),
+      lt-ltb (7 + k) 23 (omega arith),
+      h,
+    )
 
 pub target-at : (k : ℕ) → k < 16 → standsAt 1 (23 + k) ≡ Place.TargetName k
 unfolding standsAt
@@ -125,10 +141,20 @@ target-at k l =
     let b : (23 + k) / 512 ≡ 0 = omega arith in
     let p : (23 + k) % 512 ≡ 23 + k = omega arith in
     let h : 23 + k - 23 ≡ k = omega arith in
-    rw
-    (b, p, le-ltb (23 + k) 2 (omega arith), lt-ltb (23 + k) 506 (omega arith), le-ltb (23 + k) 3 (omega arith), le-ltb (23 + k) 4 (omega arith),
-    le-ltb (23 + k) 5 (omega arith), le-ltb (23 + k) 6 (omega arith), le-ltb (23 + k) 7 (omega arith), le-ltb (23 + k) 23 (omega arith),
-    lt-ltb (23 + k) 39 (omega arith), h)
+    rw (
+      b,
+      p,
+      le-ltb (23 + k) 2 (omega arith),
+      lt-ltb (23 + k) 506 (omega arith),
+      le-ltb (23 + k) 3 (omega arith),
+      le-ltb (23 + k) 4 (omega arith),
+      le-ltb (23 + k) 5 (omega arith),
+      le-ltb (23 + k) 6 (omega arith),
+      le-ltb (23 + k) 7 (omega arith),
+      le-ltb (23 + k) 23 (omega arith),
+      lt-ltb (23 + k) 39 (omega arith),
+      h,
+    )
 
 pub within-image : (s o n : ℕ) → s < n → o < 24 → position 1 s o < 512 * blocksFor 1 n
 within-image s o n l k = omega arith

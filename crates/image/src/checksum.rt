@@ -25,11 +25,7 @@ fn plus(a: usize, b: usize) -> usize
     requires { ⌜ (a < 65536) × (b < 65536) ⌝ }
     ensures { λ r. ⌜ (r ≡ plus a b) × (r < 65536) ⌝ }
 {
-    if a + b < 65536 {
-        a + b
-    } else {
-        a + b - 65535
-    }
+    if a + b < 65536 { a + b } else { a + b - 65535 }
 }
 
 // Of the 510 bytes that begin at `from`.
