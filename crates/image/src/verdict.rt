@@ -168,14 +168,16 @@ fn is_barred_next(image: &[u8], i: usize, value: usize, state: usize) -> bool
     ensures { λ r. ⌜ r ≡ leb (nextBelow (now (image .entry)) state (not (eqb (at (now (image .entry)) (i - 1)) 254))) value ⌝ }
 {
     let leads = number_at(image, i - 1) != 254;
-    next_below(image, state, leads) <= value
+    let bound = next_below(image, state, leads);
+    bound <= value
 }
 
 fn is_barred_fence_next(image: &[u8], value: usize, state: usize, f: usize) -> bool
     ensures { λ r. ⌜ r ≡ leb (nextBelow (now (image .entry)) state (ltb f (at (now (image .entry)) 5))) value ⌝ }
 {
     let leads = f < number_at(image, 5);
-    next_below(image, state, leads) <= value
+    let limit = next_below(image, state, leads);
+    limit <= value
 }
 
 fn is_barred(image: &[u8], i: usize) -> bool
