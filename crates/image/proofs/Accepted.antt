@@ -1,0 +1,348 @@
+-- Of an image that is accepted: its machine's image is the image itself. Assumes nothing.
+use Prim.Native.Nat.{ℕ, suc, _+_, _-_, _*_, _/_, _%_, _<_, _≤_, max}
+use mathlib.Core.Path.{_≡_, refl, sym, ap, ap₂, subst, _∙_}
+use mathlib.Core.Bool.{Bool, true, false, not}
+use mathlib.Core.Logic.{_⊎_, inl, inr}
+use mathlib.Core.List.{List}
+use native.Mathlib.Decide.{ℕ-discrete, decLt}
+use native.Mathlib.Omega.{arith}
+use lib.Dec.{leb, ltb, eqb}
+use lib.ListN.{length}
+use borrow.Author.Tests.{lt-ltb, le-ltb, le-leb, eq-eqb, ne-eqb, ltb-false, leb-false, eqb-true, eqb-false}
+use Rattle.tables.specs.Table.{choose}
+use Rattle.answers.specs.declared.Refusal.{Refusal}
+use Rattle.image.specs.declared.layout.Place.{Place}
+use Rattle.image.specs.declared.verdict.Found.{Found}
+use Rattle.image.specs.declared.verdict.Verdict.{Verdict}
+use Rattle.image.specs.declared.machine.Header.{Header}
+use Rattle.image.specs.Checksum.{twoBytes}
+use Rattle.image.specs.Layout.{limit, blocksFor, at, standsAt, position}
+use Rattle.image.specs.Barred.{lowest, wrong, checkOf, blockCount, wrongCount, barredFence, nextBelow, statesOf, upstreamFencesOf, targetFencesOf, barredAs, barred, stages, verdictOf}
+use Rattle.image.specs.Image.{listed, stride, word, half, used, valueAs, valueAt, byteAt, sizeOf, imageOf, headerOf, entryWord, rowsOf, AccessWord, Canonical}
+use Rattle.image.proofs.Inverse.{true-false, neither, chosen, equal, nowhere}
+use Rattle.image.proofs.Fronts.{length-listed, at-listed, is-listed}
+use Rattle.image.proofs.Places.{Stands, stands, fence-at, next-at, onward-at, upstream-at, target-at, within-image}
+use Rattle.image.proofs.NameFields.{good-field}
+use Rattle.image.proofs.Sums.{check-same}
+use Rattle.image.proofs.Sealing.{byte-content, written-check, byte-high, byte-low}
+
+-- the stages of an acceptance
+abbrev Passes : Verdict → Type 0
+Passes Verdict.Accepted = Unit {0}
+Passes (Verdict.Refused why) = ⊥
+
+staged : (f g : Found) → stages f g ≡ Verdict.Accepted → (f ≡ Found.Nowhere) × (g ≡ Found.Nowhere)
+staged (Found.At b) g e = absurd (subst Passes (sym e) tt)
+staged Found.Nowhere (Found.At i) e = absurd (subst Passes (sym e) tt)
+staged Found.Nowhere Found.Nowhere e = (refl, refl)
+
+pub record Right (image : List ℕ) : Type 0 where
+  pub fits : length image ≤ limit
+  pub blocks : (b : ℕ) → b < blockCount image → wrong image b ≡ false
+  pub bytes : (i : ℕ) → i < length image → barred image i ≡ false
+
+pub accepted-right : (image : List ℕ) → verdictOf image ≡ Verdict.Accepted → Right image
+unfolding verdictOf
+accepted-right image e = go (ltb limit (length image)) refl e
+  where
+    go : (t : Bool) → ltb limit (length image) ≡ t
+        → choose t (Verdict.Refused Refusal.OverLimit)
+        (stages (lowest (wrong image) 0 (blockCount image)) (lowest (barred image) 0 (length image)))
+        ≡ Verdict.Accepted
+        → Right image
+    go true h w = absurd (subst Passes (sym w) tt)
+    go false h w =
+        let s = staged _ _ w in
+        record {
+          fits = ltb-false limit (length image) h;
+          blocks = λ b l. nowhere (wrong image) (blockCount image) 0 (s .0) b (omega arith) (omega arith);
+          bytes = λ i l. nowhere (barred image) (length image) 0 (s .1) i (omega arith) (omega arith);
+        }
+
+-- a block that is not wrong
+pub record Block (image : List ℕ) (b : ℕ) : Type 0 where
+  pub whole : 512 * b + 512 ≤ length image
+  pub number : twoBytes (at image (512 * b)) (at image (512 * b + 1)) ≡ b
+  pub check : twoBytes (at image (512 * b + 510)) (at image (512 * b + 510 + 1)) ≡ checkOf image b
+
+right-block : (image : List ℕ) (b : ℕ) → wrong image b ≡ false → Block image b
+unfolding wrong
+right-block image b e =
+    let s = neither (ltb (length image) (512 * b + 512)) e in
+    let t = chosen (eqb (twoBytes (at image (512 * b)) (at image (512 * b + 1))) b) (s .1) in
+    record {
+      whole = ltb-false (length image) (512 * b + 512) (s .0);
+      number = eqb-true (twoBytes (at image (512 * b)) (at image (512 * b + 1))) b (t .0);
+      check = equal _ _ (t .1);
+    }
+
+module _ (image : List ℕ) (bytes : (i : ℕ) → at image i < 256) (right : Right image) where
+  pub first-block : 512 ≤ length image
+  first-block = omega (arith, right-block image 0 (right .blocks 0 (omega arith)) .whole)
+
+  pub unbarred : (i : ℕ) → i < length image → barredAs image i (at image i) (standsAt 1 i) ≡ false
+  unfolding barred
+  unbarred i l = right .bytes i l
+
+  counted : wrongCount image (statesOf image) ≡ false
+  unfolding standsAt
+  counted = unbarred 4 (omega (arith, first-block))
+
+  pub some-states : 0 < statesOf image
+  unfolding wrongCount
+  some-states = let z = eqb-false (statesOf image) 0 (neither (eqb (statesOf image) 0) counted .0) in omega (arith, z)
+
+  pub length-is : length image ≡ 512 * blocksFor 1 (statesOf image)
+  unfolding wrongCount
+  length-is = equal _ _ (neither (eqb (statesOf image) 0) counted .1)
+
+  pub block-of : (i : ℕ) → i < length image → Block image (i / 512)
+  block-of i l = right-block image (i / 512) (right .blocks (i / 512) (omega (arith, length-is)))
+
+  -- what is read
+
+  word-is : (s a : ℕ) → s < statesOf image → a < stride → word (rowsOf image) s a ≡ entryWord image s a
+  unfolding rowsOf
+  word-is s a l k =
+      let d : (s * stride + a) / stride ≡ s = omega arith in
+      let m : (s * stride + a) % stride ≡ a = omega arith in
+      at-listed (statesOf image * stride) _ (s * stride + a) (omega arith) ∙ ap₂ (entryWord image) d m
+
+  access-is : (s a : ℕ) → a < 4 → entryWord image s a ≡ twoBytes (at image (position 1 s (2 * a))) (at image (position 1 s (2 * a + 1)))
+  unfolding entryWord
+  access-is s a l = rw (lt-ltb _ _ l)
+
+  fence-is : (s f : ℕ) → f < upstreamFencesOf image → entryWord image s (4 + f) ≡ twoBytes 255 (at image (position 1 s (8 + f)))
+  unfolding entryWord
+  fence-is s f l =
+      let e : 4 + f - 4 ≡ f = omega arith in
+      let p : 4 + (4 + f) ≡ 8 + f = omega arith in
+      rw (le-ltb (4 + f) 4 (omega arith), e, lt-ltb _ _ l, p)
+
+  absent-is : (s f : ℕ) → upstreamFencesOf image ≤ f → entryWord image s (4 + f) ≡ 0
+  unfolding entryWord
+  absent-is s f l =
+      let e : 4 + f - 4 ≡ f = omega arith in
+      rw (le-ltb (4 + f) 4 (omega arith), e, le-ltb _ _ l)
+
+  -- what may stand in an entry
+
+  fence-zero : (s v : ℕ) → statesOf image ≤ s → barredFence image s v ≡ false → v ≡ 0
+  unfolding barredFence
+  fence-zero s v l e = let w = leb-false 1 v (rw (le-ltb s (statesOf image) l) at e) in omega arith
+
+  next-unused : (s v : ℕ) (t : Bool) → statesOf image ≤ s → leb (nextBelow image s t) v ≡ false → v ≡ 0
+  unfolding nextBelow
+  next-unused s v t l e = let w = leb-false 1 v (rw (le-ltb s (statesOf image) l) at e) in omega arith
+
+  next-nowhere : (s v : ℕ) (t : Bool) → s < statesOf image → t ≡ false → leb (nextBelow image s t) v ≡ false → v ≡ 0
+  unfolding nextBelow
+  next-nowhere s v t l h e = let w = leb-false 1 v (rw (lt-ltb s (statesOf image) l, h) at e) in omega arith
+
+  -- the byte that is written is the byte that was read
+
+  number-same : (i : ℕ) → i < length image → i % 512 < 2 → half i (i / 512) ≡ at image i
+  unfolding half
+  number-same i l u = go (ℕ-discrete (i % 2) 0)
+    where
+      go : Dec (i % 2 ≡ 0) → choose (eqb (i % 2) 0) (i / 512 / 256) (i / 512 % 256) ≡ at image i
+      go (yes e) =
+          let k : 512 * (i / 512) ≡ i = omega arith in
+          rw (eq-eqb (i % 2) 0 e)
+          (omega (arith, block-of i l .number, bytes (512 * (i / 512) + 1), ap (at image) k))
+      go (no e) =
+          let k : 512 * (i / 512) + 1 ≡ i = omega arith in
+          rw (ne-eqb (i % 2) 0 e)
+          (omega (arith, block-of i l .number, bytes (512 * (i / 512) + 1), ap (at image) k))
+
+  access-word : (q a : ℕ) → q < statesOf image → a < 4
+      → word (rowsOf image) q a ≡ 256 * at image (position 1 q (2 * a)) + at image (position 1 q (2 * a + 1))
+  access-word q a l k = word-is q a l (omega arith) ∙ access-is q a k
+
+  fence-same : (q a i : ℕ) → i ≡ position 1 q (2 * a) → a < 4 → barredFence image q (at image i) ≡ false
+      → choose (ltb q (statesOf image)) (word (rowsOf image) q a / 256) 0 ≡ at image i
+  fence-same q a i e k h = go (decLt q (statesOf image))
+    where
+      go : Dec (q < statesOf image) → choose (ltb q (statesOf image)) (word (rowsOf image) q a / 256) 0 ≡ at image i
+      go (yes l) =
+          rw (lt-ltb q (statesOf image) l)
+          (omega (arith, access-word q a l k, bytes (position 1 q (2 * a + 1)), ap (at image) e))
+      go (no l) =
+          let m : statesOf image ≤ q = omega arith in
+          rw (le-ltb q (statesOf image) m) (sym (fence-zero q (at image i) m h))
+
+  next-same : (q a i : ℕ) (t : Bool) → i ≡ position 1 q (2 * a + 1) → a < 4 → leb (nextBelow image q t) (at image i) ≡ false
+      → choose (ltb q (statesOf image)) (word (rowsOf image) q a % 256) 0 ≡ at image i
+  next-same q a i t e k h = go (decLt q (statesOf image))
+    where
+      go : Dec (q < statesOf image) → choose (ltb q (statesOf image)) (word (rowsOf image) q a % 256) 0 ≡ at image i
+      go (yes l) =
+          rw (lt-ltb q (statesOf image) l)
+          (omega (arith, access-word q a l k, bytes (position 1 q (2 * a + 1)), ap (at image) e))
+      go (no l) =
+          let m : statesOf image ≤ q = omega arith in
+          rw (le-ltb q (statesOf image) m) (sym (next-unused q (at image i) t m h))
+
+  onward-same : (q f i : ℕ) → i ≡ position 1 q (8 + f) → f < 16
+      → leb (nextBelow image q (ltb f (upstreamFencesOf image))) (at image i) ≡ false
+      → choose (ltb q (statesOf image)) (word (rowsOf image) q (4 + f) % 256) 0 ≡ at image i
+  onward-same q f i e k h = go (decLt q (statesOf image)) (decLt f (upstreamFencesOf image))
+    where
+      go : Dec (q < statesOf image) → Dec (f < upstreamFencesOf image)
+          → choose (ltb q (statesOf image)) (word (rowsOf image) q (4 + f) % 256) 0 ≡ at image i
+      go (yes l) (yes m) =
+          rw (lt-ltb q (statesOf image) l)
+          (omega
+          (arith, word-is q (4 + f) l (omega arith) ∙ fence-is q f m, bytes (position 1 q (8 + f)), ap (at image) e))
+      go (yes l) (no m) =
+          let n : upstreamFencesOf image ≤ f = omega arith in
+          rw (lt-ltb q (statesOf image) l)
+          (omega
+          (arith, word-is q (4 + f) l (omega arith) ∙ absent-is q f n, next-nowhere q (at image i) _ l (le-ltb f (upstreamFencesOf image) n) h))
+      go (no l) m =
+          let n : statesOf image ≤ q = omega arith in
+          rw (le-ltb q (statesOf image) n) (sym (next-unused q (at image i) _ n h))
+
+  same-as : (i : ℕ) → i < length image → i % 512 < 510 → (place : Place) → Stands i place → barredAs image i (at image i) place ≡ false
+      → valueAs (headerOf image) (rowsOf image) i place ≡ at image i
+  unfolding headerOf used
+  same-as i l u Place.Number s b = number-same i l s
+  same-as i l u Place.Form s b = sym (equal _ _ b)
+  same-as i l u Place.Way s b = ap (at image) (sym s)
+  same-as i l u Place.States s b = ap (at image) (sym s)
+  same-as i l u Place.UpstreamFences s b = ap (at image) (sym s)
+  same-as i l u Place.TargetFences s b = ap (at image) (sym s)
+  same-as i l u (Place.UpstreamName k) s b = at-listed 16 _ k (s .1) ∙ ap (at image) (sym (s .0))
+  same-as i l u (Place.TargetName k) s b = at-listed 16 _ k (s .1) ∙ ap (at image) (sym (s .0))
+  same-as i l u (Place.Fence q a) s b = fence-same q a i (s .0) (s .1) b
+  same-as i l u (Place.Next q a) s b = next-same q a i _ (s .0) (s .1) b
+  same-as i l u (Place.FenceNext q f) s b = onward-same q f i (s .0) (s .1) b
+  same-as i l u Place.Nothing s b = let w = leb-false 1 (at image i) b in omega arith
+  same-as i l u Place.Check s b = absurd (omega arith)
+
+  value-same : (i : ℕ) → i < length image → i % 512 < 510 → valueAt (headerOf image) (rowsOf image) i ≡ at image i
+  unfolding valueAt
+  value-same i l u = same-as i l u (standsAt 1 i) (stands i) (unbarred i l)
+
+  check-same-as : (i : ℕ) → i < length image → written-check (headerOf image) (rowsOf image) (i / 512) ≡ checkOf image (i / 512)
+  unfolding checkOf written-check
+  check-same-as i l =
+      check-same _ _ (λ p k. value-same (512 * (i / 512) + p) (omega (arith, block-of i l .whole)) (omega arith))
+
+  byte-same : (i : ℕ) → i < length image → byteAt (headerOf image) (rowsOf image) i ≡ at image i
+  byte-same i l = go (decLt (i % 512) 510) (ℕ-discrete (i % 512) 510)
+    where
+      go : Dec (i % 512 < 510) → Dec (i % 512 ≡ 510) → byteAt (headerOf image) (rowsOf image) i ≡ at image i
+      go (yes u) d = byte-content (headerOf image) (rowsOf image) i u ∙ value-same i l u
+      go (no u) (yes d) =
+          let e : 512 * (i / 512) + 510 ≡ i = omega arith in
+          ap (byteAt (headerOf image) (rowsOf image)) (sym e) ∙ byte-high (headerOf image) (rowsOf image) (i / 512)
+          ∙ omega (arith, check-same-as i l, block-of i l .check, bytes (512 * (i / 512) + 510 + 1), ap (at image) e)
+      go (no u) (no d) =
+          let e : 512 * (i / 512) + 511 ≡ i = omega arith in
+          let f : 512 * (i / 512) + 510 + 1 ≡ i = omega arith in
+          ap (byteAt (headerOf image) (rowsOf image)) (sym e) ∙ byte-low (headerOf image) (rowsOf image) (i / 512)
+          ∙ omega (arith, check-same-as i l, block-of i l .check, bytes (512 * (i / 512) + 510 + 1), ap (at image) f)
+
+  -- what was read writes the same bytes
+  pub image-same : imageOf (headerOf image) (rowsOf image) ≡ image
+  unfolding imageOf headerOf
+  image-same = sym (is-listed _ _ image length-is (λ i l. sym (byte-same i (omega (arith, length-is)))))
+
+  -- what was read is a machine of the layout
+
+  rule-at : (i : ℕ) (place : Place) → i < length image → standsAt 1 i ≡ place → barredAs image i (at image i) place ≡ false
+  rule-at i place l e = subst (λ (p : Place). barredAs image i (at image i) p ≡ false) e (unbarred i l)
+
+  in-entry : (s o : ℕ) → s < statesOf image → o < 24 → position 1 s o < length image
+  in-entry s o l k = omega (arith, length-is, within-image s o (statesOf image) l k)
+
+  fence-kept : (s v : ℕ) → s < statesOf image → v < 256 → barredFence image s v ≡ false
+      → (v ≡ 254) ⊎ ((v < targetFencesOf image) ⊎ (v ≡ 255))
+  unfolding barredFence
+  fence-kept s v l u e = go (decLt v (targetFencesOf image)) (decLt v 254) (ℕ-discrete v 254)
+    where
+      open-e : choose (leb (targetFencesOf image) v) (ltb v 254) false ≡ false
+      open-e = rw (lt-ltb s (statesOf image) l) at e
+
+      go : Dec (v < targetFencesOf image) → Dec (v < 254) → Dec (v ≡ 254) → (v ≡ 254) ⊎ ((v < targetFencesOf image) ⊎ (v ≡ 255))
+      go (yes k) c d = inr (inl k)
+      go (no k) (yes c) d =
+          true-false (rw (le-leb (targetFencesOf image) v (omega arith), lt-ltb v 254 c) at open-e)
+      go (no k) (no c) (yes d) = inl d
+      go (no k) (no c) (no d) = inr (inr (omega arith))
+
+  next-kept : (s v : ℕ) → s < statesOf image → leb (nextBelow image s true) v ≡ false → v < statesOf image
+  unfolding nextBelow
+  next-kept s v l e = leb-false (statesOf image) v (rw (lt-ltb s (statesOf image) l) at e)
+
+  access-kept : (s a : ℕ) → s < statesOf image → a < 4 → AccessWord (headerOf image) (word (rowsOf image) s a)
+  unfolding headerOf
+  access-kept s a l k = go (ℕ-discrete x 254) (fence-kept s x l (bytes _) (rule-at _ _ (in-entry s (2 * a) l (omega arith)) (fence-at s a k)))
+    where
+      x : ℕ
+      x = at image (position 1 s (2 * a))
+
+      y : ℕ
+      y = at image (position 1 s (2 * a + 1))
+
+      w : word (rowsOf image) s a ≡ 256 * x + y
+      w = access-word s a l k
+
+      before : position 1 s (2 * a + 1) - 1 ≡ position 1 s (2 * a)
+      before = omega arith
+
+      rule : leb (nextBelow image s (not (eqb x 254))) y ≡ false
+      rule =
+          subst (λ (i : ℕ). leb (nextBelow image s (not (eqb (at image i) 254))) y ≡ false) before
+          (rule-at _ _ (in-entry s (2 * a + 1) l (omega arith)) (next-at s a k))
+
+      high : word (rowsOf image) s a / 256 ≡ x
+      high = omega (arith, w, bytes (position 1 s (2 * a + 1)))
+
+      low : word (rowsOf image) s a % 256 ≡ y
+      low = omega (arith, w, bytes (position 1 s (2 * a + 1)))
+
+      below : (x ≡ 254 → ⊥) → word (rowsOf image) s a % 256 < statesOf image
+      below e =
+          omega
+          (arith, low, next-kept s y l (subst (λ (t : Bool). leb (nextBelow image s t) y ≡ false) (ap not (ne-eqb x 254 e)) rule))
+
+      go : Dec (x ≡ 254) → (x ≡ 254) ⊎ ((x < targetFencesOf image) ⊎ (x ≡ 255))
+          → ((word (rowsOf image) s a / 256 ≡ 254) × (word (rowsOf image) s a % 256 ≡ 0))
+          ⊎ (((word (rowsOf image) s a / 256 < targetFencesOf image) ⊎ (word (rowsOf image) s a / 256 ≡ 255))
+          × (word (rowsOf image) s a % 256 < statesOf image))
+      go (yes e) c = inl (high ∙ e, low ∙ next-nowhere s y _ l (ap not (eq-eqb x 254 e)) rule)
+      go (no e) (inl c) = absurd (e c)
+      go (no e) (inr (inl c)) = inr (inl (omega (arith, high)), below e)
+      go (no e) (inr (inr c)) = inr (inr (high ∙ c), below e)
+
+  fences-kept : (s f : ℕ) → s < statesOf image → f < upstreamFencesOf image → upstreamFencesOf image ≤ 16
+      → (word (rowsOf image) s (4 + f) / 256 ≡ 255) × (word (rowsOf image) s (4 + f) % 256 < statesOf image)
+  fences-kept s f l k u =
+      let w = word-is s (4 + f) l (omega arith) ∙ fence-is s f k in
+      let r = rule-at _ _ (in-entry s (8 + f) l (omega arith)) (onward-at s f (omega arith)) in
+      let n =
+      next-kept s (at image (position 1 s (8 + f))) l
+      (subst (λ (t : Bool). leb (nextBelow image s t) (at image (position 1 s (8 + f))) ≡ false) (lt-ltb f (upstreamFencesOf image) k) r) in (
+        omega (arith, w, bytes (position 1 s (8 + f))),
+        omega (arith, w, bytes (position 1 s (8 + f)), n),
+      )
+
+  pub canonical-read : Canonical (headerOf image) (rowsOf image)
+  unfolding headerOf standsAt
+  canonical-read =
+      let f = first-block in
+      let u = ltb-false 16 (upstreamFencesOf image) (rule-at 5 Place.UpstreamFences (omega arith) refl) in
+      record {
+        way = ltb-false 1 (at image 3) (rule-at 3 Place.Way (omega arith) refl);
+        some = some-states;
+        states = omega (arith, bytes 4);
+        ups = u;
+        targets = ltb-false 16 (targetFencesOf image) (rule-at 6 Place.TargetFences (omega arith) refl);
+        upstream = good-field image 7 (λ k l. rule-at (7 + k) (Place.UpstreamName k) (omega arith) (upstream-at k l));
+        target = good-field image 23 (λ k l. rule-at (23 + k) (Place.TargetName k) (omega arith) (target-at k l));
+        accesses = access-kept;
+        fences = λ s g l k. fences-kept s g l k u;
+        absent = λ s g l k m. word-is s (4 + g) l (omega arith) ∙ absent-is s g k;
+      }

@@ -1,0 +1,68 @@
+-- What a run's ending answers. Assumes nothing.
+use Prim.Native.Nat.{ℕ, _<_, _≤_}
+use mathlib.Core.Path.{_≡_, refl, sym, ap, ap₂, subst, _∙_}
+use mathlib.Core.List.{List}
+use native.Mathlib.Omega.{arith}
+use lib.ListN.{length, take}
+use borrow.Author.Tests.{lt-ltb, le-ltb, le-leb, lt-leb}
+use Rattle.answers.specs.Written.{written, writing}
+use Rattle.answers.specs.declared.Refusal.{Refusal}
+use Rattle.answers.specs.declared.Answer.{Answer}
+use Rattle.image.specs.declared.run.Stop.{Stop}
+use Rattle.image.specs.declared.run.Progress.{Progress}
+use Rattle.image.specs.declared.run.Ending.{Ending}
+use Rattle.image.specs.declared.verdict.Verdict.{Verdict}
+use Rattle.image.specs.Layout.{at}
+use Rattle.image.specs.Barred.{verdictOf}
+use Rattle.image.specs.Run.{Ran, ended, stopped, ran, Outcome, refuses, gives, answerOf, bufferOf, refusalOf, outcomeOf, streamLimit, runAs, runOver, Ends}
+
+pub refusal-is : (why is : Stop) (i : ℕ) → why ≡ is → refusalOf is i ≡ refusalOf why i
+refusal-is why is i e = ap (λ (w : Stop). refusalOf w i) (sym e)
+
+-- a call answers an outcome
+abbrev pub Answers : Outcome → List ℕ → Answer → List ℕ → Type 0
+Answers o out r out′ = (r ≡ answerOf o (length out)) × (out′ ≡ bufferOf o out)
+
+pub answers-same : (o p : Outcome) (out : List ℕ) (r : Answer) (out′ : List ℕ) → o ≡ p → Answers o out r out′ → Answers p out r out′
+answers-same o p out r out′ e h = subst (λ (x : Outcome). Answers x out r out′) e h
+
+module _ (r : Ran) (e : Ending) (room : List ℕ) (ends : Ends r e room) where
+  pub run-refused : (why : Stop) (i : ℕ) (x : Refusal) (out : List ℕ) → e ≡ Ending.Stopped why i → x ≡ refusalOf why i
+      → Answers (outcomeOf r) out (Answer.Refused x) out
+  run-refused why i x out h w =
+      let s : r ≡ stopped why i = subst (λ (y : Ending). Ends r y room) h ends in
+      answers-same (outcomeOf (stopped why i)) (outcomeOf r) out _ _ (ap outcomeOf (sym s)) (ap Answer.Refused w, refl)
+
+  pub run-fits : (p : Progress) → e ≡ Ending.Ended p → p .written ≤ length room
+  run-fits p h = subst (λ (y : Ending). Ends r y room) h ends .0
+
+  pub run-given : (p : Progress) (out out′ : List ℕ) (a : Answer) → e ≡ Ending.Ended p
+      → (a ≡ writing (take (p .written) room) (p .fences) (p .state) (length out)) × (out′ ≡ written (take (p .written) room) out)
+      → Answers (outcomeOf r) out a out′
+  run-given p out out′ a h w =
+      let s : r ≡ ended (take (p .written) room) (p .fences) (p .state) = subst (λ (y : Ending). Ends r y room) h ends .1 in
+      answers-same (gives (take (p .written) room) (p .fences) (p .state)) (outcomeOf r) out a out′ (ap outcomeOf (sym s)) w
+
+-- the stages
+module _ (image : List ℕ) (start : ℕ) (stream out : List ℕ) where
+  pub out-of-range : (n : ℕ) → n ≡ at image 4 → n ≤ start → Answers (runAs image start stream Verdict.Accepted) out (Answer.Refused Refusal.OutOfRange) out
+  out-of-range n e l =
+      answers-same (refuses Refusal.OutOfRange) (runAs image start stream Verdict.Accepted) out _ _ (rw (le-ltb start (at image 4) (omega arith))) (refl, refl)
+
+  pub over-limit : (n : ℕ) → n ≡ at image 4 → start < n → streamLimit < length stream
+      → Answers (runAs image start stream Verdict.Accepted) out (Answer.Refused Refusal.OverLimit) out
+  over-limit n e l k =
+      answers-same (refuses Refusal.OverLimit) (runAs image start stream Verdict.Accepted) out _ _
+      (rw (lt-ltb start (at image 4) (omega arith), lt-leb (length stream) streamLimit k)) (refl, refl)
+
+  pub in-range : (n : ℕ) (a : Answer) (out′ : List ℕ) → n ≡ at image 4 → start < n → length stream ≤ streamLimit
+      → Answers (outcomeOf (ran image start stream)) out a out′ → Answers (runAs image start stream Verdict.Accepted) out a out′
+  in-range n a out′ e l k h =
+      answers-same (outcomeOf (ran image start stream)) (runAs image start stream Verdict.Accepted) out a out′
+      (rw (lt-ltb start (at image 4) (omega arith), le-leb (length stream) streamLimit k)) h
+
+  pub by-verdict : (v w : Verdict) (a : Answer) (out′ : List ℕ) → v ≡ verdictOf image → v ≡ w → Answers (runAs image start stream w) out a out′
+      → Answers (runOver image start stream) out a out′
+  unfolding runOver
+  by-verdict v w a out′ e h u =
+      answers-same (runAs image start stream w) (runAs image start stream (verdictOf image)) out a out′ (ap (runAs image start stream) (sym h ∙ e)) u

@@ -1,0 +1,61 @@
+-- The steps of a run over an image. Assumes nothing.
+use Prim.Native.Nat.{ℕ, _+_, _*_, _<_, _≤_}
+use mathlib.Core.Path.{_≡_, refl, sym, ap, ap₂, subst, _∙_}
+use mathlib.Core.List.{List}
+use native.Mathlib.Omega.{arith}
+use borrow.Author.Tests.{lt-ltb, le-ltb, eq-eqb, ne-eqb}
+use Rattle.rule.specs.declared.operation.Kind.{Kind}
+use Rattle.rule.specs.declared.operation.Operation.{Operation}
+use Rattle.rule.specs.declared.operation.Byte.{Byte}
+use Rattle.rule.specs.Operation.{byteIs, fenceByte}
+use Rattle.image.specs.declared.run.Stop.{Stop}
+use Rattle.image.specs.declared.run.Move.{Move}
+use Rattle.image.specs.declared.run.Step.{Step}
+use Rattle.image.specs.Layout.{at, position}
+use Rattle.image.specs.Run.{letterOf, accessStep, stepAs, stepAt, Small}
+
+module _ (fence next : ℕ) (small : next < 256) where
+  pub step-refused : fence ≡ 254 → (Step.Stopped Stop.NoFenceWillDo ≡ accessStep fence next) × Unit {0}
+  step-refused e = (rw (eq-eqb fence 254 e), tt)
+
+  pub step-plain : (fence ≡ 254 → ⊥) → fence ≡ 255 → (Step.Taken (Move.Plain next) ≡ accessStep fence next) × (next < 256)
+  step-plain z e = (rw (ne-eqb fence 254 z, eq-eqb fence 255 e), small)
+
+  pub step-fenced : (b : ℕ) → (fence ≡ 254 → ⊥) → (fence ≡ 255 → ⊥) → b ≡ fenceByte fence
+      → (Step.Taken (Move.Fenced b next) ≡ accessStep fence next) × (next < 256)
+  step-fenced b z w e = (
+    rw (ne-eqb fence 254 z, ne-eqb fence 255 w) (ap (λ (x : ℕ). Step.Taken (Move.Fenced x next)) e),
+    small,
+  )
+
+-- the entry of an access
+pub step-access : (image : List ℕ) (s a k p f n : ℕ) (r : Step) → a ≡ k → p ≡ position 1 s (2 * a) → f ≡ at image p → n ≡ at image (p + 1)
+    → (r ≡ accessStep f n) × Small r
+    → (r ≡ accessStep (at image (position 1 s (2 * k))) (at image (position 1 s (2 * k + 1)))) × Small r
+step-access image s a k p f n r c e h l w =
+    let o : p ≡ position 1 s (2 * k) = omega arith in
+    let q : p + 1 ≡ position 1 s (2 * k + 1) = omega arith in (
+      w .0 ∙ ap₂ accessStep (h ∙ ap (at image) o) (l ∙ ap (at image) q),
+      w .1,
+    )
+
+module _ (image : List ℕ) (s f u : ℕ) (ups : u ≡ at image 5) where
+  pub step-no-fence : u ≤ f → (Step.Stopped Stop.NoSuchFence ≡ stepAs image s (Byte.Is (Operation.Fence f))) × Unit {0}
+  step-no-fence l = (rw (← ups, le-ltb f u l), tt)
+
+  pub step-passed : (p n : ℕ) → f < u → p ≡ position 1 s (8 + f) → n ≡ at image p → n < 256
+      → (Step.Taken (Move.Passed n) ≡ stepAs image s (Byte.Is (Operation.Fence f))) × (n < 256)
+  step-passed p n l e h k = (
+    rw (← ups, lt-ltb f u l) (ap (λ (x : ℕ). Step.Taken (Move.Passed x)) (h ∙ ap (at image) e)),
+    k,
+  )
+
+-- by what the byte is
+pub step-byte : (image : List ℕ) (s b : ℕ) (read is : Byte) (r : Step) → read ≡ byteIs b → read ≡ is → (r ≡ stepAs image s is) × Small r
+    → (r ≡ stepAt image s b) × Small r
+unfolding stepAt
+step-byte image s b read is r e h w = (w .0 ∙ ap (stepAs image s) (sym h ∙ e), w .1)
+
+pub step-operation : (image : List ℕ) (s : ℕ) (o is : Operation) (r : Step) → o ≡ is → (r ≡ stepAs image s (Byte.Is is)) × Small r
+    → (r ≡ stepAs image s (Byte.Is o)) × Small r
+step-operation image s o is r h w = (w .0 ∙ ap (λ (x : Operation). stepAs image s (Byte.Is x)) (sym h), w .1)

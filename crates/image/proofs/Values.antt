@@ -1,0 +1,24 @@
+-- What is written at a byte, by its place. Assumes nothing.
+use Prim.Native.Nat.{ℕ, _+_, _*_, _/_, _%_, _<_, _≤_}
+use mathlib.Core.Path.{_≡_, refl, sym, ap, ap₂, _∙_}
+use mathlib.Core.List.{List}
+use native.Mathlib.Omega.{arith}
+use borrow.Author.Tests.{lt-ltb, le-ltb, eq-eqb, ne-eqb}
+use Rattle.image.specs.declared.layout.Place.{Place}
+use Rattle.image.specs.declared.machine.Header.{Header}
+use Rattle.image.specs.Layout.{at, standsAt}
+use Rattle.image.specs.Image.{used, valueAs, valueAt}
+
+module _ (h : Header) (s n v w : ℕ) (states : n ≡ h .states) where
+  pub used-in : s < n → v ≡ w → v ≡ used h s w
+  unfolding used
+  used-in l e = rw (← states, lt-ltb _ _ l) e
+
+  pub used-out : n ≤ s → 0 ≡ used h s w
+  unfolding used
+  used-out l = rw (← states, le-ltb _ _ l)
+
+pub value-as : (h : Header) (rows : List ℕ) (i : ℕ) (place other : Place) (v : ℕ) → place ≡ standsAt 1 i → place ≡ other
+    → v ≡ valueAs h rows i other → v ≡ valueAt h rows i
+unfolding valueAt
+value-as h rows i place other v e t b = b ∙ ap (valueAs h rows i) (sym t ∙ e)

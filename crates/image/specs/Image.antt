@@ -1,0 +1,159 @@
+-- A machine and its image, each made from the other. Document 01: "The machine image", as in Layout; by the case of each byte's place.
+-- A machine is its header and its rows: a word for each state and letter, at a constant stride, 256 times the fence byte and the next state.
+-- The letters are l, L, s, S and then the upstream fences, whose words have FF for a fence byte; the word of a letter that the machine has not
+-- is 0.
+use Prim.Native.Nat.{ℕ, zero, suc, _+_, _-_, _*_, _/_, _%_, _<_, _≤_}
+use mathlib.Core.Path.{_≡_}
+use mathlib.Core.Bool.{Bool, true, false}
+use mathlib.Core.Logic.{_⊎_}
+use mathlib.Core.List.{List, [], _∷_, _++_}
+use lib.Dec.{leb, ltb, eqb}
+use lib.ListN.{length, set, replicate}
+use Rattle.answers.specs.Written.{written}
+use Rattle.answers.specs.declared.Refusal.{Refusal}
+use Rattle.tables.specs.Table.{choose}
+use Rattle.image.specs.declared.layout.Place.{Place}
+use Rattle.image.specs.declared.verdict.Verdict.{Verdict}
+use Rattle.image.specs.declared.machine.Header.{Header}
+use Rattle.image.specs.declared.machine.Reading.{Reading}
+use Rattle.image.specs.Checksum.{twoBytes, checksum}
+use Rattle.image.specs.Layout.{accesses, blocksFor, at, standsAt, position}
+use Rattle.image.specs.Barred.{checkOf, nameByte, statesOf, upstreamFencesOf, targetFencesOf, verdictOf}
+
+-- the first n values of f
+unfoldable pub listed : ℕ → (ℕ → ℕ) → List ℕ
+listed zero f = []
+listed (suc n) f = listed n f ++ (f n ∷ [])
+
+abbrev pub stride : ℕ
+stride = 20
+
+-- the word of a state and a letter, in rows
+abbrev pub word : List ℕ → ℕ → ℕ → ℕ
+word rows s a = at rows (s * stride + a)
+
+-- from a machine to its image
+
+-- the byte of a two-byte number that stands at an even or an odd index
+unfoldable pub half : ℕ → ℕ → ℕ
+half i n = choose (eqb (i % 2) 0) (n / 256) (n % 256)
+
+-- "Unused states are zero"
+unfoldable pub used : Header → ℕ → ℕ → ℕ
+used h s v = choose (ltb s (h .states)) v 0
+
+abbrev pub valueAs : Header → List ℕ → ℕ → Place → ℕ
+valueAs h rows i Place.Number = half i (i / 512)
+valueAs h rows i Place.Form = 1
+valueAs h rows i Place.Way = h .way
+valueAs h rows i Place.States = h .states
+valueAs h rows i Place.UpstreamFences = h .ups
+valueAs h rows i Place.TargetFences = h .targets
+valueAs h rows i (Place.UpstreamName k) = at (h .upstream) k
+valueAs h rows i (Place.TargetName k) = at (h .target) k
+valueAs h rows i (Place.Fence s a) = used h s (word rows s a / 256)
+valueAs h rows i (Place.Next s a) = used h s (word rows s a % 256)
+valueAs h rows i (Place.FenceNext s f) = used h s (word rows s (accesses 1 + f) % 256)
+valueAs h rows i Place.Nothing = 0
+valueAs h rows i Place.Check = 0
+
+-- what is written at byte i, the checks aside
+unfoldable pub valueAt : Header → List ℕ → ℕ → ℕ
+valueAt h rows i = valueAs h rows i (standsAt 1 i)
+
+-- and the checks with it
+unfoldable pub byteAt : Header → List ℕ → ℕ → ℕ
+byteAt h rows i =
+    choose (ltb (i % 512) 510) (valueAt h rows i) (half i (checksum 255 (λ (p : ℕ). valueAt h rows (512 * (i / 512) + p))))
+
+abbrev pub sizeOf : Header → ℕ
+sizeOf h = 512 * blocksFor 1 (h .states)
+
+unfoldable pub imageOf : Header → List ℕ → List ℕ
+imageOf h rows = listed (sizeOf h) (byteAt h rows)
+
+-- from an image to its machine
+
+unfoldable pub headerOf : List ℕ → Header
+headerOf image = record {
+  way = at image 3;
+  states = statesOf image;
+  ups = upstreamFencesOf image;
+  targets = targetFencesOf image;
+  upstream = listed 16 (λ (k : ℕ). at image (7 + k));
+  target = listed 16 (λ (k : ℕ). at image (23 + k));
+}
+
+unfoldable pub entryWord : List ℕ → ℕ → ℕ → ℕ
+entryWord image s a =
+    choose (ltb a (accesses 1)) (twoBytes (at image (position 1 s (2 * a))) (at image (position 1 s (2 * a + 1))))
+    (choose (ltb (a - accesses 1) (upstreamFencesOf image)) (twoBytes 255 (at image (position 1 s (accesses 1 + a)))) 0)
+
+unfoldable pub rowsOf : List ℕ → List ℕ
+rowsOf image = listed (statesOf image * stride) (λ (j : ℕ). entryWord image (j / stride) (j % stride))
+
+-- what `read` answers, where rows have room for so many words, and the rows after it
+
+abbrev pub noHeader : Header
+noHeader = record { way = 0; states = 0; ups = 0; targets = 0; upstream = replicate 16 0; target = replicate 16 0 }
+
+abbrev pub refusedReading : Refusal → Reading
+refusedReading why = record { verdict = Verdict.Refused why; header = noHeader }
+
+abbrev pub readAs : List ℕ → ℕ → Verdict → Reading
+readAs image room (Verdict.Refused why) = refusedReading why
+readAs image room Verdict.Accepted =
+    choose (leb (statesOf image * stride) room) (record { verdict = Verdict.Accepted; header = headerOf image })
+    (refusedReading Refusal.BufferTooSmall)
+
+abbrev pub rowsAs : List ℕ → List ℕ → Verdict → List ℕ
+rowsAs image rows (Verdict.Refused why) = rows
+rowsAs image rows Verdict.Accepted = written (rowsOf image) rows
+
+unfoldable pub readingOf : List ℕ → ℕ → Reading
+readingOf image room = readAs image room (verdictOf image)
+
+unfoldable pub rowsAfter : List ℕ → List ℕ → List ℕ
+rowsAfter image rows = rowsAs image rows (verdictOf image)
+
+-- the machines that have an image
+
+-- a name, "zero-filled": so many bytes that a name may hold, then zeros
+pub record NameField (field : List ℕ) : Type 0 where
+  pub size : length field ≡ 16
+  pub name : ℕ
+  pub some : 0 < name
+  pub few : name ≤ 16
+  pub bytes : (k : ℕ) → k < name → nameByte (at field k) ≡ true
+  pub zeros : (k : ℕ) → name ≤ k → k < 16 → at field k ≡ 0
+
+-- "for l, L, s, S a fence byte (a number, FF none, FE refused) with the next state (0 where refused)"
+abbrev pub AccessWord : Header → ℕ → Type 0
+AccessWord h w = ((w / 256 ≡ 254) × (w % 256 ≡ 0)) ⊎ (((w / 256 < h .targets) ⊎ (w / 256 ≡ 255)) × (w % 256 < h .states))
+
+pub record Canonical (h : Header) (rows : List ℕ) : Type 0 where
+  pub way : h .way ≤ 1
+  pub some : 0 < h .states
+  pub states : h .states ≤ 255
+  pub ups : h .ups ≤ 16
+  pub targets : h .targets ≤ 16
+  pub upstream : NameField (h .upstream)
+  pub target : NameField (h .target)
+  pub accesses : (s a : ℕ) → s < h .states → a < 4 → AccessWord h (word rows s a)
+  pub fences : (s f : ℕ) → s < h .states → f < h .ups → (word rows s (4 + f) / 256 ≡ 255) × (word rows s (4 + f) % 256 < h .states)
+  pub absent : (s f : ℕ) → s < h .states → h .ups ≤ f → f < 16 → word rows s (4 + f) ≡ 0
+
+-- the first n values of a list are those of f
+pub record Front (f : ℕ → ℕ) (n : ℕ) (l : List ℕ) : Type 0 where
+  pub fits : n ≤ length l
+  pub front : (i : ℕ) → i < n → at l i ≡ f i
+
+-- a block with its check written to its end
+unfoldable pub sealed : List ℕ → ℕ → List ℕ
+sealed image b = set (set image (512 * b + 510) (checkOf image b / 256)) (512 * b + 511) (checkOf image b % 256)
+
+-- n words of a list are those of f, and the rest is as it was
+pub record Filled (l : List ℕ) (f : ℕ → ℕ) (n : ℕ) (l′ : List ℕ) : Type 0 where
+  pub size : length l′ ≡ length l
+  pub front : Front f n l′
+  pub rest : (i : ℕ) → n ≤ i → at l′ i ≡ at l i

@@ -1,0 +1,5 @@
+pub mod Checksum
+pub mod Layout
+pub mod Barred
+pub mod Image
+pub mod Run

@@ -1,0 +1,120 @@
+// Reading an image to a machine.
+ghost use mathlib.Core.Path.{_≡_};
+ghost use Prim.Native.Nat.{ℕ, _+_, _*_, _/_, _%_, _^_, _<_, _≤_};
+ghost use lib.ListN.{length};
+ghost use Rattle.image.specs.Layout.{at, position};
+ghost use Rattle.image.specs.Barred.{statesOf};
+ghost use Rattle.image.specs.Image.{listed, stride, headerOf, entryWord, rowsOf, refusedReading, readAs, rowsAs, readingOf, rowsAfter, Front, Filled};
+use crate::machine::Header;
+use crate::machine::Reading;
+use crate::verdict;
+use crate::verdict::Verdict;
+use answers::Refusal;
+
+// Where byte o of a state's entry stands.
+pub(crate) fn position(state: usize, o: usize) -> usize
+    requires { ⌜ (state < 2 ^ 32) × (o < 2 ^ 32) ⌝ }
+    ensures { λ r. ⌜ r ≡ position 1 state o ⌝ }
+{
+    512 * (1 + state / 21) + 2 + 24 * (state % 21) + o
+}
+
+// The word of a state and a letter.
+pub(crate) fn entry_word(image: &[u8], state: usize, letter: usize) -> u16
+    requires { ⌜ (state < 2 ^ 32) × (letter < stride) ⌝ }
+    ensures { λ r. ⌜ r ≡ entryWord (now (image .entry)) state letter ⌝ }
+{
+    if letter < 4 {
+        let fence = verdict::number_at(image, position(state, 2 * letter));
+        let next = verdict::number_at(image, position(state, 2 * letter + 1));
+        return (256 * fence + next) as u16;
+    }
+    if letter - 4 < verdict::number_at(image, 5) {
+        let next = verdict::number_at(image, position(state, 4 + letter));
+        return (256 * 255 + next) as u16;
+    }
+    0
+}
+
+// Sixteen bytes of an image.
+fn name_at(image: &[u8], from: usize) -> [u8; 16]
+    requires { ⌜ from < 64 ⌝ }
+    ensures { λ r. ⌜ r ≡ listed 16 (λ (k : ℕ). at (now (image .entry)) (from + k)) ⌝ }
+{
+    let mut name = [0u8; 16];
+    let mut k = 0;
+    while k < 16 {
+        name[k] = verdict::byte_at(image, from + k);
+        k += 1;
+    }
+    name
+}
+
+fn header(image: &[u8]) -> Header
+    ensures { λ r. ⌜ r ≡ headerOf (now (image .entry)) ⌝ }
+{
+    Header {
+        way: verdict::byte_at(image, 3),
+        states: verdict::byte_at(image, 4),
+        ups: verdict::byte_at(image, 5),
+        targets: verdict::byte_at(image, 6),
+        upstream: name_at(image, 7),
+        target: name_at(image, 23),
+    }
+}
+
+fn fill_rows(image: &[u8], rows: &mut [u16], count: usize)
+    requires { ⌜ (count ≤ 5100) × (count ≤ length (now rows)) ⌝ }
+    ensures { λ _. ⌜ Filled (now (rows .entry)) (λ (j : ℕ). entryWord (now (image .entry)) (j / stride) (j % stride)) count (now (rows .exit)) ⌝ }
+{
+    let mut j = 0;
+    while j < count {
+        rows[j] = entry_word(image, j / 20, j % 20);
+        j += 1;
+    }
+}
+
+fn refused(why: Refusal) -> Reading
+    ensures { λ r. ⌜ r ≡ refusedReading why ⌝ }
+{
+    let header = Header {
+        way: 0,
+        states: 0,
+        ups: 0,
+        targets: 0,
+        upstream: [0; 16],
+        target: [0; 16],
+    };
+    Reading {
+        verdict: Verdict::Refused(why),
+        header,
+    }
+}
+
+// Of an image that is accepted.
+fn read_accepted(image: &[u8], rows: &mut [u16]) -> Reading
+    ensures answer { λ r. ⌜ r ≡ readAs (now (image .entry)) (length (now (rows .entry))) Verdict.Accepted ⌝ }
+    ensures buffer { λ _. ⌜ now (rows .exit) ≡ rowsAs (now (image .entry)) (now (rows .entry)) Verdict.Accepted ⌝ }
+{
+    let count = verdict::number_at(image, 4) * 20;
+    if rows.len() < count {
+        return refused(Refusal::BufferTooSmall);
+    }
+    fill_rows(image, rows, count);
+    Reading {
+        verdict: Verdict::Accepted,
+        header: header(image),
+    }
+}
+
+// The machine of an image, its rows to the front of `rows`.
+pub fn read(image: &[u8], rows: &mut [u16]) -> Reading
+    ensures answer { λ r. ⌜ r ≡ readingOf (now (image .entry)) (length (now (rows .entry))) ⌝ }
+    ensures buffer { λ _. ⌜ now (rows .exit) ≡ rowsAfter (now (image .entry)) (now (rows .entry)) ⌝ }
+{
+    let verdict = verdict::examine(image);
+    match verdict {
+        Verdict::Refused(why) => refused(why),
+        Verdict::Accepted => read_accepted(image, rows),
+    }
+}
