@@ -130,18 +130,24 @@ fn either<'a>(name: &'a [u8], upstream: u64, target: u64, stream: &'a [u8]) {
     full(name, upstream, target, stream);
 }
 
-fn streams_to_try() {
+fn tso_on_arm() {
     either(b"TSO on ARM, nothing", 1, 15, b"");
     either(b"TSO on ARM, ss", 1, 15, b"ss");
     either(b"TSO on ARM, sl", 1, 15, b"sl");
     either(b"TSO on ARM, s0l", 1, 15, b"s0l");
     either(b"TSO on ARM, 0l", 1, 15, b"0l");
     either(b"TSO on ARM, ssl0l", 1, 15, b"ssl0l");
+}
+
+fn on_power() {
     sparing(b"TSO on POWER, ss", 1, 14, b"ss");
     sparing(b"TSO on POWER, ll", 1, 14, b"ll");
     sparing(b"POWER on POWER, s0l", 7, 14, b"s0l");
     sparing(b"POWER on POWER, s0s1s", 7, 14, b"s0s1s");
     sparing(b"POWER on POWER, sl0l1s", 7, 14, b"sl0l1s");
+}
+
+fn on_weaker_targets() {
     sparing(b"TSO on RMO, ll", 1, 13, b"ll");
     sparing(b"TSO on RMO, sls", 1, 13, b"sls");
     full(b"TSO on RMO, ll", 1, 13, b"ll");
@@ -157,6 +163,9 @@ fn traps() {
     either(b"kinds not seen, S", 1, 15, b"S");
     either(b"kinds not seen, 0L", 1, 15, b"0L");
     either(b"kinds not seen, 10s", 7, 14, b"10s");
+}
+
+fn more_traps() {
     either(b"locked accesses", 1, 15, b"LSlsSL");
     either(b"M does not settle S", 0, 9, b"ss");
     either(b"an upstream fence without a target twin", 7, 15, b"s1l");
@@ -169,19 +178,22 @@ fn traps() {
     );
 }
 
-fn stream_limits() {
+fn stream_at_its_limit() {
     let loads = [b'l'; 4096];
     either(b"4,096 loads", 1, 15, &loads);
+    built_ins_in(b"4,096 loads, buffer filled", 1, 1, 15, &loads, 8191);
+    built_ins_in(b"4,096 loads, a byte too long", 1, 1, 15, &loads, 8190);
     let fences = [b'0'; 4096];
     either(b"4,096 fences", 1, 15, &fences);
     let bad = [b'x'; 4096];
     either(b"4,096 bytes, the first bad", 1, 15, &bad);
-    let more = [b'l'; 4097];
-    either(b"4,097 loads", 1, 15, &more);
-    let worse = [b'x'; 4097];
-    either(b"4,097 bytes, the first bad", 1, 15, &worse);
-    built_ins_in(b"4,096 loads, buffer filled", 1, 1, 15, &loads, 8191);
-    built_ins_in(b"4,096 loads, a byte too long", 1, 1, 15, &loads, 8190);
+}
+
+fn stream_over_its_limit() {
+    let loads = [b'l'; 4097];
+    either(b"4,097 loads", 1, 15, &loads);
+    let bad = [b'x'; 4097];
+    either(b"4,097 bytes, the first bad", 1, 15, &bad);
 }
 
 fn buffer_limits() {
@@ -217,27 +229,35 @@ fn fence_limits() {
     both_ways(b"target of 17", &texts::SC, &texts::SEVENTEEN, b"lsLS");
 }
 
-// Each call has a fault of a later stage too.
-fn refusals_of_texts() {
+// Each call of these three has a fault of a later stage too.
+fn refusals_of_ways() {
     let over = [b'm'; 1025];
-    let limit = [b'm'; 1024];
-    let long = [b'x'; 4097];
-    texts_in(b"a way before all", 2, &over, &over, &long, 0);
-    texts_in(b"a way of nine bits", 256, &over, &over, &long, 0);
-    texts_in(b"a way of 33 bits", 4294967296, &over, &over, &long, 0);
+    texts_in(b"a way before all", 2, &over, &over, b"x", 0);
+    texts_in(b"a way of nine bits", 256, &over, &over, b"x", 0);
+    texts_in(b"a way of 33 bits", 4294967296, &over, &over, b"x", 0);
     texts_in(
         b"the greatest way",
         18446744073709551615,
         &over,
         &over,
-        &long,
+        b"x",
         0,
     );
-    texts_in(b"upstream 1", 0, &over, b"model", &long, 0);
-    texts_in(b"upstream 2", 0, b"model", &over, &long, 0);
-    texts_in(b"upstream 2 at its limit", 0, &limit, &over, &long, 0);
-    texts_in(b"upstream empty", 0, b"", &over, &long, 0);
-    texts_in(b"upstream 3", 0, &texts::REPEATS, &over, &long, 0);
+}
+
+fn refusals_of_upstreams() {
+    let over = [b'm'; 1025];
+    let limit = [b'm'; 1024];
+    texts_in(b"upstream 1", 0, &over, b"model", b"x", 0);
+    texts_in(b"upstream 2", 0, b"model", &over, b"x", 0);
+    texts_in(b"upstream 2 at its limit", 0, &limit, &over, b"x", 0);
+    texts_in(b"upstream empty", 0, b"", &over, b"x", 0);
+    texts_in(b"upstream 3", 0, &texts::REPEATS, &over, b"x", 0);
+}
+
+fn refusals_of_targets() {
+    let over = [b'm'; 1025];
+    let long = [b'x'; 4097];
     texts_in(b"target 1", 1, &texts::SC, &over, b"x", 0);
     texts_in(b"target 2", 1, &texts::SC, b"model", &long, 0);
     texts_in(b"target empty", 1, &texts::SC, b"", &long, 0);
@@ -259,21 +279,42 @@ fn refusals_of_streams() {
     refusal_in_stream(b"l0");
     refusal_in_stream(b"0ll");
     refusal_in_stream(b"ll0");
+}
+
+fn refusals_of_bytes() {
     refusal_in_stream(b"0x");
     refusal_in_stream(b"x0");
     refusal_in_stream(b"la");
     refusal_in_stream(b"lF");
     refusal_in_stream(b"lG");
     refusal_in_stream(b"l ");
-    refusal_in_stream(b"ll");
+}
+
+fn streams_to_try() {
+    tso_on_arm();
+    on_power();
+    on_weaker_targets();
+    traps();
+    more_traps();
+}
+
+fn limits() {
+    stream_at_its_limit();
+    stream_over_its_limit();
+    buffer_limits();
+    fence_limits();
+}
+
+fn refusals() {
+    refusals_of_ways();
+    refusals_of_upstreams();
+    refusals_of_targets();
+    refusals_of_streams();
+    refusals_of_bytes();
 }
 
 fn main() {
     streams_to_try();
-    traps();
-    stream_limits();
-    buffer_limits();
-    fence_limits();
-    refusals_of_texts();
-    refusals_of_streams();
+    limits();
+    refusals();
 }
