@@ -25,7 +25,7 @@ fn named<'a>(fences: &'a [u64]) -> &'a [u64]
 }
 
 // Generates the machine of the upstream model on the target model, by their default tables and their fences' packed tables, and writes its rows.
-// All scratch, some 416 KiB, is on the stack of this call.
+// All scratch, 408 KiB, is on the stack of this call.
 pub fn generate<'a>(
     way: Way,
     up: Table,
