@@ -1,0 +1,89 @@
+-- Exploring row after row. Assumes nothing.
+use Prim.Native.Nat.{ℕ, _+_, _≤_, _<_}
+use mathlib.Core.Path.{_≡_, refl, _∙_, ap₂}
+use mathlib.Core.List.{List, [], _∷_}
+use native.Mathlib.Omega.{arith}
+use lib.ListN.{length}
+use Rattle.rule.specs.declared.situation.Situation.{Situation}
+use Rattle.rule.specs.Situation.{fresh}
+use Rattle.mealy.specs.Runs.{Machine}
+use Rattle.mealy.proofs.Runs.{untaken}
+use Rattle.mealy.proofs.Exploring.{explore-start, explore-row}
+use Rattle.machine.specs.Index.{capacity, Placed, known, added, full}
+use Rattle.machine.specs.Words.{words, row}
+use Rattle.machine.specs.Explore.{Explored, Onward, onward, beyond, Blank, Fresh}
+use Rattle.machine.proofs.Exploration.{pair}
+
+-- of more than there is room for
+pub over : {m : Machine Situation ℕ} {count : ℕ} {pairs links table : List ℕ} {i a r : ℕ} → Onward m count pairs links table i a r → capacity < r
+    → (began : ℕ) (pairs′ links′ table′ : List ℕ) (j b : ℕ) → Onward m began pairs′ links′ table′ j b r
+over (onward grown fits x) h began pairs′ links′ table′ j b = absurd (omega arith)
+over (beyond e more) h began pairs′ links′ table′ j b = beyond e more
+
+pub record Rowing (m : Machine Situation ℕ) (began : ℕ) (pairs links table : List ℕ) (count i a : ℕ) : Type 0 where
+  pub explored : Explored m pairs links table count i a
+  pub here : i < count
+  pub grown : began ≤ count
+  pub upto : a ≤ m .letters
+
+pub rowing-start : {m : Machine Situation ℕ} {pairs links table : List ℕ} {count i : ℕ} → Explored m pairs links table count i 0 → i < count
+    → Rowing m count pairs links table count i 0
+rowing-start x h = record { explored = x; here = h; grown = omega arith; upto = omega arith }
+
+pub rowing-next : {m : Machine Situation ℕ} {began : ℕ} {pairs links table : List ℕ} {count i a : ℕ} → Rowing m began pairs links table count i a
+    → a < m .letters → {pairs′ links′ table′ : List ℕ} {r : ℕ} → Onward m count pairs′ links′ table′ i (a + 1) r → r ≤ capacity
+    → Rowing m began pairs′ links′ table′ r i (a + 1)
+rowing-next x l (onward grown fits y) h =
+    record { explored = y; here = omega (arith, x .here); grown = omega (arith, x .grown); upto = omega arith }
+rowing-next x l (beyond e more) h = absurd (omega arith)
+
+pub rowing-end : {m : Machine Situation ℕ} {began : ℕ} {pairs links table : List ℕ} {count i a : ℕ} → Rowing m began pairs links table count i a
+    → m .letters ≤ a → Onward m began pairs links table (i + 1) 0 count
+rowing-end {m} {count = count} {i = i} {a = a} x h =
+    let e : a ≡ m .letters = omega (arith, x .upto) in
+    let y = x .explored in
+    onward (x .grown) (y .index .fits)
+    (record {
+      streams = y .streams;
+      size = y .size;
+      exploring = explore-row m (rw e at (y .exploring)) (omega (arith, x .here, y .size));
+      index = y .index;
+      situations = y .situations;
+      whole = y .whole;
+      narrow = y .narrow;
+      outputs = y .outputs;
+    })
+
+-- the fresh situation alone
+pub fresh-placed : {pairs : List ℕ} {s : Situation} → s ≡ fresh → {pairs′ links′ : List ℕ} {q : ℕ}
+    → Placed pairs 0 (s .need .packed) (s .low .packed) pairs′ links′ q → Fresh pairs′ links′
+fresh-placed f (known h there same y) = absurd (omega arith)
+fresh-placed f (full h absent size same) = absurd (omega arith)
+fresh-placed f (added h absent more pushed) =
+    record { index = pushed .index; situation = ap₂ pair (pushed .new .0) (pushed .new .1) ∙ f }
+
+pub explored-start : {m : Machine Situation ℕ} {pairs links table : List ℕ} → Fresh pairs links → (length table ≡ words) × Blank table
+    → fresh ≡ m .fresh → Explored m pairs links table 1 0 0
+explored-start {m} {table = table} x t e =
+    record {
+      streams = [] ∷ [];
+      size = refl;
+      exploring = explore-start m (row table);
+      index = x .index;
+      situations = λ p l. let one : p ≡ 0 = omega arith in rw one (x .situation ∙ e);
+      whole = t .0;
+      narrow = record { narrow = λ p. rw (t .1 .blank p) (omega arith) };
+      outputs = λ p o j d. absurd (untaken (rw (t .1 .blank p) at d));
+    }
+
+pub explored-next : {m : Machine Situation ℕ} {count : ℕ} {pairs links table : List ℕ} {i a r : ℕ} → Onward m count pairs links table i a r
+    → r ≤ capacity → Explored m pairs links table r i a
+explored-next (onward grown fits x) h = x
+explored-next (beyond e more) h = absurd (omega arith)
+
+-- every situation found has its row
+pub explored-end : {m : Machine Situation ℕ} {pairs links table : List ℕ} {count i : ℕ} → Explored m pairs links table count i 0 → count ≤ i
+    → Onward m 0 pairs links table count 0 count
+explored-end {count = count} {i = i} x h =
+    let e : i ≡ count = omega (arith, x .exploring .here, x .size) in
+    onward (omega arith) (x .index .fits) (rw e at x)

@@ -1,0 +1,10 @@
+pub mod Links
+pub mod Filled
+pub mod Naming
+pub mod Keys
+pub mod Rounds
+pub mod Entries
+pub mod Firsts
+pub mod Exploration
+pub mod Letters
+pub mod Breadth

@@ -1,0 +1,37 @@
+use native.Mathlib.Omega.{arith}
+use borrow.Author.Needs.{needs}
+use borrow.Author.Tests.{lt-ltb, le-ltb}
+use Rattle.machine.proofs.refine.shown.Statement.{statement}
+use Rattle.machine.proofs.refine.shown.Tie as tie
+use Rattle.machine.proofs.refine.shown.Reads as reads
+use Rattle.machine.proofs.refine.shown.Lts as lts
+use Rattle.machine.proofs.refine.wide_class.Reads as wide-class-reads
+
+returns : tie.Need-returns
+returns c = (simp (lt-ltb _ _ (c .if1 .taken)), omega arith)
+
+mul-result : tie.Need-mul-result
+mul-result c = search needs
+
+shared-slice-read-wide-class : tie.Need-shared-slice-read-wide-class
+shared-slice-read-wide-class c = search needs
+
+wide-class-requires : tie.Need-wide-class-requires
+wide-class-requires c κs = search needs
+
+add-result : tie.Need-add-result
+add-result c = search needs
+
+returns-2 : tie.Need-returns-2
+returns-2 c = (simp (le-ltb _ _ (c .before .before .if1 .left)) (omega arith), omega arith)
+
+pub shown-spec : {M : Type 1} → statement M
+shown-spec =
+    tie.close
+    (tie.spec
+    returns
+    mul-result
+    shared-slice-read-wide-class
+    wide-class-requires
+    add-result
+    returns-2)

@@ -1,0 +1,45 @@
+use mathlib.Core.Path.{refl, sym, _∙_}
+use borrow.Author.Needs.{needs}
+use Rattle.machine.specs.Rows.{later, first}
+use Rattle.machine.proofs.rows.write_first.Statement.{statement}
+use Rattle.machine.proofs.rows.write_first.Tie as tie
+use Rattle.machine.proofs.rows.write_first.Reads as reads
+use Rattle.machine.proofs.rows.write_first.Lts as lts
+use Rattle.machine.proofs.refine.wide_class.Reads as wide-class-reads
+use Rattle.machine.proofs.rows.write_row.Reads as write-row-reads
+
+shared-slice-read-wide-class : tie.Need-shared-slice-read-wide-class
+shared-slice-read-wide-class c = search needs
+
+wide-class-requires : tie.Need-wide-class-requires
+wide-class-requires c κs = search needs
+
+returns : tie.Need-returns
+returns c = later (λ e. c .if1 .taken (c .before .wide-class .ensures .0 ∙ e)) refl refl
+
+write-row-requires : tie.Need-write-row-requires
+write-row-requires c κs =
+    let pre = c .before .before .before .before .before .before .before .pre in
+    ((pre .0 .0, pre .0 .1, pre .0 .2, pre .1 .0 (sym (c .before .before .wide-class .ensures .0) ∙ c .before .if1 .left)), pre .1 .1)
+
+add-result : tie.Need-add-result
+add-result c = search needs
+
+same-length : tie.Need-same-length
+same-length c = search needs
+
+returns-2 : tie.Need-returns-2
+returns-2 c =
+    first (sym (c .before .before .before .before .before .wide-class .ensures .0) ∙ c .before .before .before .before .if1 .left) (c .before .before .write-row .ensures) refl
+
+pub write-first-spec : {M : Type 1} → statement M
+write-first-spec =
+    tie.close
+    (tie.spec
+    shared-slice-read-wide-class
+    wide-class-requires
+    returns
+    write-row-requires
+    add-result
+    same-length
+    returns-2)

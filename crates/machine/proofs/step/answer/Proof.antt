@@ -1,0 +1,47 @@
+use native.Mathlib.Omega.{arith}
+use mathlib.Core.Path.{_≡_, refl, sym, _∙_}
+use Prim.Native.Nat.{ℕ, _+_, _-_, _*_, _≤_, _<_}
+use borrow.Author.Needs.{needs}
+use borrow.Author.Tests.{lt-ltb, le-ltb}
+use Rattle.machine.proofs.step.answer.Statement.{statement}
+use Rattle.machine.proofs.step.answer.Tie as tie
+use Rattle.machine.proofs.step.answer.Reads as reads
+use Rattle.machine.proofs.step.answer.Lts as lts
+use Rattle.machine.proofs.step.kind_of.Reads as kind-of-reads
+use Rattle.machine.proofs.step.put_before.Reads as put-before-reads
+use Rattle.rule.proofs.situation.Situation.asks.Reads as asks-reads
+use Rattle.rule.proofs.way.fence_table.Reads as fence-table-reads
+use Rattle.rule.proofs.way.take.Reads as take-reads
+
+kind-of-requires : tie.Need-kind-of-requires
+kind-of-requires c κs = search needs
+
+take-requires : tie.Need-take-requires
+take-requires c κs = search needs
+
+put-before-requires : tie.Need-put-before-requires
+put-before-requires c κs = search needs
+
+returns : tie.Need-returns
+returns c = simp (lt-ltb _ _ (c .before .before .before .if1 .taken)) (cc)
+
+fence-table-requires : tie.Need-fence-table-requires
+fence-table-requires c κs = search needs
+
+asks-requires : tie.Need-asks-requires
+asks-requires c κs = search needs
+
+returns-2 : tie.Need-returns-2
+returns-2 c = simp (le-ltb _ _ (c .before .before .if1 .left)) (cc)
+
+pub answer-spec : {M : Type 1} → statement M
+answer-spec =
+    tie.close
+    (tie.spec
+    kind-of-requires
+    take-requires
+    put-before-requires
+    returns
+    fence-table-requires
+    asks-requires
+    returns-2)

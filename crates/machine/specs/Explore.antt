@@ -1,0 +1,53 @@
+-- What exploring has found: the situations so far, with the streams by which they were found, and the table of the candidates before (i, a).
+use Prim.Native.Nat.{ℕ, _+_, _*_, _≤_, _<_, max}
+use mathlib.Core.Path.{_≡_}
+use mathlib.Core.Logic.{_⊎_}
+use mathlib.Core.List.{List}
+use lib.ListN.{length, set}
+use Rattle.rule.specs.declared.situation.Situation.{Situation}
+use Rattle.rule.specs.Situation.{fresh}
+use Rattle.mealy.specs.Runs.{Answer, taken, Machine}
+use Rattle.mealy.specs.Arrivals.{arrival, More}
+use Rattle.mealy.specs.Exploring.{Exploring}
+use Rattle.machine.specs.Index.{capacity, needAt, lowAt, Index, Placed}
+use Rattle.machine.specs.Words.{stride, words, at, answer, row}
+use Rattle.machine.specs.Rows.{Narrow}
+
+-- the situation at a place
+abbrev pub situationAt : List ℕ → ℕ → Situation
+situationAt pairs p = record { need = record { packed = needAt pairs p }; low = record { packed = lowAt pairs p } }
+
+-- an output is a target fence's number, or 255 for none
+abbrev pub Output : ℕ → Type 0
+Output o = (o < 16) ⊎ (o ≡ 255)
+
+pub record Explored (m : Machine Situation ℕ) (pairs links table : List ℕ) (count i a : ℕ) : Type 0 where
+  pub streams : List (List ℕ)
+  pub size : length streams ≡ count
+  pub exploring : Exploring m streams (row table) i a
+  pub index : Index pairs links count
+  pub situations : (p : ℕ) → p < count → situationAt pairs p ≡ arrival m streams p
+  pub whole : length table ≡ words
+  pub narrow : Narrow table
+  pub outputs : (p o j : ℕ) → answer (at table p) ≡ taken o j → Output o
+
+-- the next situation's place is stored with the output, as the word of (i, a); or there is no room for the situation
+pub data Stored (pairs table : List ℕ) (count i a o need low : ℕ) (pairs′ links table′ : List ℕ) (r : ℕ) : Type 0 where
+  stored : (q : ℕ) → Placed pairs count need low pairs′ links q → (q ≡ capacity → ⊥) → table′ ≡ set table (i * stride + a) ((o + 1) * 4096 + q)
+      → r ≡ max count (q + 1) → Stored pairs table count i a o need low pairs′ links table′ r
+  unstored : (q : ℕ) → Placed pairs count need low pairs′ links q → q ≡ capacity → r ≡ 4097
+      → Stored pairs table count i a o need low pairs′ links table′ r
+
+-- how exploring goes on from count situations to candidate (i, a): with r of them; or there are more than there is room for
+pub data Onward (m : Machine Situation ℕ) (count : ℕ) (pairs links table : List ℕ) (i a r : ℕ) : Type 0 where
+  onward : count ≤ r → r ≤ capacity → Explored m pairs links table r i a → Onward m count pairs links table i a r
+  beyond : r ≡ 4097 → More m _≡_ capacity → Onward m count pairs links table i a r
+
+-- nothing has been written
+pub record Blank (table : List ℕ) : Type 0 where
+  pub blank : (p : ℕ) → at table p ≡ 0
+
+-- one situation has been found, the fresh one
+pub record Fresh (pairs links : List ℕ) : Type 0 where
+  pub index : Index pairs links 1
+  pub situation : situationAt pairs 0 ≡ fresh

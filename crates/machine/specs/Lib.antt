@@ -1,0 +1,6 @@
+pub mod Index
+pub mod Words
+pub mod Refine
+pub mod Rows
+pub mod Shim
+pub mod Explore

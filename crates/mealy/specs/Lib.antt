@@ -1,0 +1,5 @@
+pub mod Runs
+pub mod Order
+pub mod Arrivals
+pub mod Classes
+pub mod Exploring
