@@ -20,7 +20,7 @@ use Rattle.runs.specs.declared.WayRead.{WayRead}
 use Rattle.listing.specs.declared.shape.Found.{Found}
 use Rattle.listing.specs.declared.shape.Looked.{Looked}
 use Rattle.listing.specs.Shape.{onto, lines, Cut, behind, through, wayIn, isRun, endingFrom, endingOf}
-use Rattle.listing.specs.Finding.{LineEnd, Looks, TextEnd, ends, endless, last, more, nothing, whole as whole-text, broken}
+use Rattle.listing.specs.Finding.{LineOf, NoLine, TextOf, GoesOn}
 
 -- bytes that are compared equal are equal
 pub same-is : (a b : List ℕ) → sameBytes a b ≡ true → a ≡ b
@@ -124,15 +124,70 @@ ending-unended : (l : List ℕ) → length l ≤ indexOf 10 l → (w : List ℕ)
 ending-unended [] h w = refl
 ending-unended (b ∷ l) h w = never-ending (wayIn w) (b ∷ l) (not-run (b ∷ l) h (omega arith))
 
-pub line-ends : (t : List ℕ) (n : ℕ) → n ≡ indexOf 10 t → n < length t → LineEnd t (Found.At (n + 1))
+pub line-ends : (t : List ℕ) (n : ℕ) → n ≡ indexOf 10 t → n < length t → LineOf t (n + 1)
 line-ends t n e h =
     let k : n + 1 ≡ suc (indexOf 10 t) = omega arith in
-    ends {n = n + 1} (omega arith) (omega arith)
-    (first-line t (omega arith) ∙ ap (λ (m : ℕ). take m t ∷ lines (drop m t)) (sym k))
+    record {
+      some = omega arith;
+      inside = omega arith;
+      first = first-line t (omega arith) ∙ ap (λ (m : ℕ). take m t ∷ lines (drop m t)) (sym k);
+    }
 
-pub line-endless : (t : List ℕ) (n : ℕ) → n ≡ indexOf 10 t → length t ≤ n → LineEnd t Found.Nothing
+pub line-endless : (t : List ℕ) (n : ℕ) → n ≡ indexOf 10 t → length t ≤ n → NoLine t
 line-endless t n e h =
     let k : length t ≤ indexOf 10 t = omega arith in
     let is : lines t ≡ whole t = only-line t k in
-    endless (ap through is ∙ through-whole t k) (ap endingOf is ∙ ending-whole t)
-    (λ w. ap (λ (x : List (List ℕ)). endingOf (w ∷ x)) is ∙ ending-unended t k w)
+    record {
+      no-text = ap through is ∙ through-whole t k;
+      no-ending = ap endingOf is ∙ ending-whole t;
+      no-run = λ w. ap (λ (x : List (List ℕ)). endingOf (w ∷ x)) is ∙ ending-unended t k w;
+    }
+
+-- what a line with its line feed says of the text that it begins
+module _ {t : List ℕ} {n : ℕ} (line : LineOf t n) where
+  by-line : (q : Bool) → sameBytes (take n t) (bytes "end\n") ≡ q
+      → through (lines t) ≡ choose q (some (record { text = take n t; rest = lines (drop n t) })) (behind (take n t) (through (lines (drop n t))))
+  unfolding through
+  by-line q e =
+      ap through (line .first)
+      ∙ ap (λ (q : Bool). choose q (some (record { text = take n t; rest = lines (drop n t) })) (behind (take n t) (through (lines (drop n t))))) e
+
+  pub line-last : sameBytes (take n t) (bytes "end\n") ≡ true → TextOf t n
+  line-last e = record { inside = line .inside; whole = by-line true e }
+
+  pub line-more : sameBytes (take n t) (bytes "end\n") ≡ false → GoesOn t n
+  line-more e = record { some = line .some; inside = line .inside; more = by-line false e }
+
+-- a text found from a place on, line after line
+behind-behind : (x y : List ℕ) (c : Option Cut) → behind x (behind y c) ≡ behind (x ++ y) c
+behind-behind x y none = refl
+behind-behind x y (some c) = ap (λ (t : List ℕ). some (record { text = t; rest = c .rest })) (sym (append-assoc x y (c .text)))
+
+behind-none : (c : Option Cut) → behind [] c ≡ c
+behind-none none = refl
+behind-none (some c) = refl
+
+abbrev pub Found-so-far : List ℕ → ℕ → Type 0
+Found-so-far t at = through (lines t) ≡ behind (take at t) (through (lines (drop at t)))
+
+pub none-so-far : (t : List ℕ) → Found-so-far t 0
+none-so-far t = sym (behind-none (through (lines t)))
+
+module _ (t : List ℕ) (at : ℕ) (so : Found-so-far t at) where
+  pub more-so-far : {n : ℕ} → GoesOn (drop at t) n → Found-so-far t (at + n)
+  more-so-far {n} g =
+      so ∙ ap (behind (take at t)) (g .more)
+      ∙ behind-behind (take at t) (take n (drop at t)) (through (lines (drop n (drop at t))))
+      ∙ ap₂ (λ (x y : List ℕ). behind x (through (lines y))) (sym (take-add at n t)) (drop-drop n at t)
+
+  pub text-found : {n : ℕ} → at ≤ length t → TextOf (drop at t) n → TextOf t (at + n)
+  text-found {n} l f =
+      record {
+        inside = omega (arith, f .inside, length-drop at t);
+        whole =
+            so ∙ ap (behind (take at t)) (f .whole)
+            ∙ ap₂ (λ (x y : List ℕ). some (record { text = x; rest = lines y })) (sym (take-add at n t)) (drop-drop n at t);
+      }
+
+  pub no-text-found : through (lines (drop at t)) ≡ none → through (lines t) ≡ none
+  no-text-found e = so ∙ ap (behind (take at t)) e

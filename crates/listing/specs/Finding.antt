@@ -2,31 +2,55 @@
 use Prim.Native.Nat.{ℕ, _-_, _<_, _≤_}
 use mathlib.Core.Path.{_≡_}
 use mathlib.Core.List.{List, [], _∷_}
-use mathlib.Core.Option.{Option, none, some}
+use mathlib.Core.Option.{Option, none, some as one}
 use lib.ListN.{length, take, drop}
+use Rattle.rule.specs.declared.way.Way.{Way}
 use Rattle.listing.specs.declared.shape.Found.{Found}
 use Rattle.listing.specs.declared.shape.Looked.{Looked}
 use Rattle.listing.specs.declared.shape.Tail.{Tail}
 use Rattle.listing.specs.Shape.{lines, Cut, behind, through, Ending, endingOf}
 
--- the end of the first line, past its line feed; where there is none, the one line left is neither `end` nor a run's
-pub data LineEnd (t : List ℕ) : Found → Type 0 where
-  ends : {n : ℕ} → 0 < n → n ≤ length t → lines t ≡ take n t ∷ lines (drop n t) → LineEnd t (Found.At n)
-  endless : through (lines t) ≡ none → endingOf (lines t) ≡ none → ((w : List ℕ) → endingOf (w ∷ lines t) ≡ none) → LineEnd t Found.Nothing
+-- the first line has n bytes, with its line feed
+pub record LineOf (t : List ℕ) (n : ℕ) : Type 0 where
+  pub some : 0 < n
+  pub inside : n ≤ length t
+  pub first : lines t ≡ take n t ∷ lines (drop n t)
 
--- what the first line says of the text
-pub data Looks (t : List ℕ) : Looked → Type 0 where
-  last : {n : ℕ} → n ≤ length t → through (lines t) ≡ some (record { text = take n t; rest = lines (drop n t) }) → Looks t (Looked.End n)
-  more : {n : ℕ} → 0 < n → n ≤ length t → through (lines t) ≡ behind (take n t) (through (lines (drop n t))) → Looks t (Looked.More n)
-  nothing : through (lines t) ≡ none → Looks t Looked.Nothing
+-- there is no line feed: what is left is neither a line `end` nor a run's
+pub record NoLine (t : List ℕ) : Type 0 where
+  pub no-text : through (lines t) ≡ none
+  pub no-ending : endingOf (lines t) ≡ none
+  pub no-run : (w : List ℕ) → endingOf (w ∷ lines t) ≡ none
 
--- the end of the text, past its last line
-pub data TextEnd (t : List ℕ) : Found → Type 0 where
-  whole : {n : ℕ} → n ≤ length t → through (lines t) ≡ some (record { text = take n t; rest = lines (drop n t) }) → TextEnd t (Found.At n)
-  broken : through (lines t) ≡ none → TextEnd t Found.Nothing
+abbrev pub LineEnd : List ℕ → Found → Type 0
+LineEnd t (Found.At n) = LineOf t n
+LineEnd t Found.Nothing = NoLine t
+
+-- the text ends with n bytes
+pub record TextOf (t : List ℕ) (n : ℕ) : Type 0 where
+  pub inside : n ≤ length t
+  pub whole : through (lines t) ≡ one (record { text = take n t; rest = lines (drop n t) })
+
+-- the first n bytes belong to it, and it goes on
+pub record GoesOn (t : List ℕ) (n : ℕ) : Type 0 where
+  pub some : 0 < n
+  pub inside : n ≤ length t
+  pub more : through (lines t) ≡ behind (take n t) (through (lines (drop n t)))
+
+abbrev pub Looks : List ℕ → Looked → Type 0
+Looks t (Looked.End n) = TextOf t n
+Looks t (Looked.More n) = GoesOn t n
+Looks t Looked.Nothing = through (lines t) ≡ none
+
+abbrev pub TextEnd : List ℕ → Found → Type 0
+TextEnd t (Found.At n) = TextOf t n
+TextEnd t Found.Nothing = through (lines t) ≡ none
 
 -- the way, and where the stream begins; it ends before the last byte
-pub data EndingAt (t : List ℕ) : Tail → Type 0 where
-  is : {e : Ending} {at : ℕ} → at < length t → e .stream ≡ take (length t - 1 - at) (drop at t) → endingOf (lines t) ≡ some e
-      → EndingAt t (Tail.Of (e .way) at)
-  isNot : endingOf (lines t) ≡ none → EndingAt t Tail.Other
+pub record EndingOf (t : List ℕ) (way : Way) (at : ℕ) : Type 0 where
+  pub inside : at < length t
+  pub whole : endingOf (lines t) ≡ one (record { way = way; stream = take (length t - 1 - at) (drop at t) })
+
+abbrev pub EndingAt : List ℕ → Tail → Type 0
+EndingAt t (Tail.Of way at) = EndingOf t way at
+EndingAt t Tail.Other = endingOf (lines t) ≡ none
