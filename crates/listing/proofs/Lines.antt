@@ -10,7 +10,7 @@ use native.Mathlib.Numerals.{add-one}
 use borrow.Author.Tests.{eqb-true, eqb-false, eq-eqb, ne-eqb}
 use lib.Dec.{eqb, leb}
 use lib.ListN.{length, getD, take, drop, length-drop}
-use lib.Seq.{take-add, drop-drop}
+use lib.Seq.{take-all, take-add, drop-drop}
 use Rattle.bytes.specs.Bytes.{indexOf, indexAfter}
 use Rattle.tables.specs.Table.{choose}
 use Rattle.rule.proofs.Choices.{differ}
@@ -107,7 +107,7 @@ module _ (l : List ℕ) (h : length l ≤ indexOf 10 l) where
       ap (λ (q : Bool). leb 5 (length l) && (sameBytes (take 4 l) (bytes "run ") && q)) (ne-eqb _ _ (no-feed l (length l - 1) h (omega arith)))
       ∙ and-never (leb 5 (length l)) (sameBytes (take 4 l) (bytes "run "))
 
-never-ending : (w : WayRead) (r : List ℕ) → isRun r ≡ false → endingFrom w r ≡ none
+pub never-ending : (w : WayRead) (r : List ℕ) → isRun r ≡ false → endingFrom w r ≡ none
 never-ending (WayRead.Is way) r e = rw e
 never-ending WayRead.Nothing r e = refl
 
@@ -191,3 +191,7 @@ module _ (t : List ℕ) (at : ℕ) (so : Found-so-far t at) where
 
   pub no-text-found : through (lines (drop at t)) ≡ none → through (lines t) ≡ none
   no-text-found e = so ∙ ap (behind (take at t)) e
+
+-- what is left of a text from a place on, as a part of it
+pub part-rest : (t : List ℕ) (at : ℕ) → take (length t - at) (drop at t) ≡ drop at t
+part-rest t at = take-all (length t - at) (drop at t) (omega (arith, length-drop at t))

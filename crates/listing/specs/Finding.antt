@@ -2,13 +2,14 @@
 use Prim.Native.Nat.{ℕ, _-_, _<_, _≤_}
 use mathlib.Core.Path.{_≡_}
 use mathlib.Core.List.{List, [], _∷_}
-use mathlib.Core.Option.{Option, none, some as one}
+use mathlib.Core.Bool.{Bool, true, false}
+use mathlib.Core.Option.{none, some as one}
 use lib.ListN.{length, take, drop}
 use Rattle.rule.specs.declared.way.Way.{Way}
 use Rattle.listing.specs.declared.shape.Found.{Found}
 use Rattle.listing.specs.declared.shape.Looked.{Looked}
 use Rattle.listing.specs.declared.shape.Tail.{Tail}
-use Rattle.listing.specs.Shape.{lines, Cut, behind, through, Ending, endingOf}
+use Rattle.listing.specs.Shape.{lines, Cut, behind, through, isRun, endingOf}
 
 -- the first line has n bytes, with its line feed
 pub record LineOf (t : List ℕ) (n : ℕ) : Type 0 where
@@ -54,3 +55,12 @@ pub record EndingOf (t : List ℕ) (way : Way) (at : ℕ) : Type 0 where
 abbrev pub EndingAt : List ℕ → Tail → Type 0
 EndingAt t (Tail.Of way at) = EndingOf t way at
 EndingAt t Tail.Other = endingOf (lines t) ≡ none
+
+-- the run's line is all that is left
+pub record RunOf (t : List ℕ) : Type 0 where
+  pub only : lines t ≡ t ∷ []
+  pub run : isRun t ≡ true
+
+abbrev pub OnlyRun : List ℕ → Bool → Type 0
+OnlyRun t true = RunOf t
+OnlyRun t false = (w : List ℕ) → endingOf (w ∷ lines t) ≡ none
