@@ -23,7 +23,7 @@ use Rattle.listing.proofs.Lines.{never-ending, part-rest}
 only-one : {t : List ℕ} {n : ℕ} → LineOf t n → n ≡ length t → lines t ≡ t ∷ []
 unfolding lines
 only-one {t} {n} line e =
-    line .first ∙ ap₂ (λ (x y : List ℕ). x ∷ lines y) (take-all n t (omega arith)) (drop-of-length-le t (omega arith))
+    line .first ∙ ap₂ (λ (x y : List ℕ). x ∷ lines y) (take-all n t (omega arith)) (drop-of-length-le t {i = n} (omega arith))
 
 by-run : (t : List ℕ) (q : Bool) → isRun t ≡ q → lines t ≡ t ∷ [] → OnlyRun t q
 by-run t true e is = record { only = is; run = e }
