@@ -7,6 +7,7 @@ use lib.ListN.{length}
 use Rattle.rule.specs.declared.situation.Situation.{Situation}
 use Rattle.rule.specs.Situation.{fresh}
 use Rattle.mealy.specs.Runs.{Machine}
+use Rattle.mealy.specs.Arrivals.{More}
 use Rattle.mealy.proofs.Runs.{untaken}
 use Rattle.mealy.proofs.Exploring.{explore-start, explore-row}
 use Rattle.machine.specs.Index.{capacity, Placed, known, added, full}
@@ -87,3 +88,8 @@ pub explored-end : {m : Machine Situation ℕ} {pairs links table : List ℕ} {c
 explored-end {count = count} {i = i} x h =
     let e : i ≡ count = omega (arith, x .exploring .here, x .size) in
     onward (omega arith) (x .index .fits) (rw e at x)
+
+pub too-many : {m : Machine Situation ℕ} {count : ℕ} {pairs links table : List ℕ} {i a r : ℕ} → Onward m count pairs links table i a r → capacity < r
+    → More m _≡_ capacity
+too-many (onward grown fits x) h = absurd (omega arith)
+too-many (beyond e more) h = more

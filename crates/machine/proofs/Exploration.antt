@@ -1,23 +1,22 @@
 -- Exploring with an index of the situations and a table of their words. Assumes nothing.
-use Prim.Native.Nat.{ℕ, _+_, _-_, _*_, _/_, _%_, _≤_, _<_, max}
+use Prim.Native.Nat.{ℕ, _+_, _*_, _≤_, _<_, max}
 use mathlib.Core.Path.{_≡_, refl, sym, _∙_, ap, ap₂}
-use mathlib.Core.Logic.{_⊎_, inl, inr, ⊎-elim}
+use mathlib.Core.Logic.{inl, inr, ⊎-elim}
 use mathlib.Core.List.{List, [], _∷_, _++_}
 use native.Mathlib.Omega.{arith}
 use native.Mathlib.Decide.{ℕ-discrete}
 use lib.ListN.{length, getD, set, length-set, length-append, List·getD-append}
 use lib.Seq.{getD-set-same, getD-set-other, getD-append-seam}
-use Rattle.tables.specs.declared.table.Table.{Table}
 use Rattle.rule.specs.declared.situation.Situation.{Situation}
 use Rattle.mealy.specs.Runs.{Answer, refused, taken, Machine, reached}
 use Rattle.mealy.specs.Order.{_▹_}
 use Rattle.mealy.specs.Arrivals.{arrival, More}
-use Rattle.mealy.specs.Exploring.{Met, Before, Exploring}
+use Rattle.mealy.specs.Exploring.{Before}
 use Rattle.mealy.proofs.Runs.{untaken, ends-on}
 use Rattle.mealy.proofs.Numbering.{split-last}
 use Rattle.mealy.proofs.Exploring.{ahead, explore-known, explore-new, explore-beyond}
-use Rattle.machine.specs.Index.{capacity, needAt, lowAt, Index, Pair, Absent, Pushed, Placed, known, added, full}
-use Rattle.machine.specs.Words.{stride, words, at, answer, row}
+use Rattle.machine.specs.Index.{capacity, Index, Pair, Absent, Pushed, Placed, known, added, full}
+use Rattle.machine.specs.Words.{stride, at, answer, row}
 use Rattle.machine.specs.Rows.{Narrow}
 use Rattle.machine.specs.Explore.{situationAt, Output, Explored, Stored, stored, unstored, Onward, onward, beyond}
 use Rattle.machine.proofs.Keys.{word-taken}

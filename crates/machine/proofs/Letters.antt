@@ -10,14 +10,13 @@ use borrow.Author.Tests.{lt-ltb, le-ltb}
 use lib.ListN.{length}
 use Rattle.tables.specs.declared.table.Table.{Table}
 use Rattle.tables.specs.Table.{atLeast}
-use Rattle.rule.specs.declared.operation.Kind.{Kind}
 use Rattle.rule.specs.declared.situation.Situation.{Situation}
 use Rattle.rule.specs.declared.way.Way.{Way}
 use Rattle.rule.specs.declared.way.Choice.{Choice}
-use Rattle.rule.specs.Pairs.{Model, tableAt}
+use Rattle.rule.specs.Pairs.{Model}
 use Rattle.rule.specs.Situation.{none, pending, choiceOf, stepOf}
 use Rattle.rule.proofs.Choices.{Takes, serves, choice-nothing, choice-pick, pick-takes}
-use Rattle.mealy.specs.Runs.{Answer, refused, taken, Machine}
+use Rattle.mealy.specs.Runs.{Answer, taken}
 use Rattle.mealy.proofs.Runs.{untaken}
 use Rattle.machine.specs.Shim.{kindOf, lettersOf, stepAnswer, letterAnswer, shim}
 use Rattle.machine.specs.Explore.{Output}
@@ -43,24 +42,31 @@ choice-low way fences p g e = look (atLeast none p) refl
         takes-low way (serves fences p) (length fences) g
         (pick-takes (serves fences p) way (length fences) g (sym (choice-pick way fences p h) ∙ e))
 
--- an output is the number of one of sixteen fences, or none
-pub letter-output : (way : Way) (up target : Model) (s : Situation) (a o : ℕ) (t : Situation) → length (target .fences) ≤ 16
-    → letterAnswer way up target s a ≡ taken o t → Output o
-letter-output way up target s a o t few e = look (decLt a 4)
+-- an output is the number of one of the fences, or none
+pub letter-fence : (way : Way) (up target : Model) (s : Situation) (a o : ℕ) (t : Situation) → letterAnswer way up target s a ≡ taken o t
+    → (o < length (target .fences)) ⊎ (o ≡ 255)
+letter-fence way up target s a o t e = look (decLt a 4)
   where
     at : (c : Choice) → choiceOf way (target .fences) (pending (kindOf a) s) ≡ c
-        → stepAnswer (stepOf (up .ppo) target s (kindOf a) c) ≡ taken o t → Output o
+        → stepAnswer (stepOf (up .ppo) target s (kindOf a) c) ≡ taken o t → (o < length (target .fences)) ⊎ (o ≡ 255)
     at Choice.Nothing h f = inr (cc)
     at (Choice.Fence g) h f =
         let one : g ≡ o = cc in
-        inl (omega (arith, choice-low way (target .fences) (pending (kindOf a) s) g h))
+        inl (rw one at (choice-low way (target .fences) (pending (kindOf a) s) g h))
     at Choice.Refused h f = absurd (untaken f)
 
-    look : Dec (a < 4) → Output o
+    look : Dec (a < 4) → (o < length (target .fences)) ⊎ (o ≡ 255)
     look (yes h) = at (choiceOf way (target .fences) (pending (kindOf a) s)) refl (rw (lt-ltb a 4 h) at e)
-    look (no h) =
-        let f : taken 255 _ ≡ taken o t = rw (le-ltb a 4 (omega arith)) at e in
-        inr (cc)
+    look (no h) = let f : taken 255 _ ≡ taken o t = rw (le-ltb a 4 (omega arith)) at e in inr (cc)
+
+-- of sixteen fences at most
+pub letter-output : (way : Way) (up target : Model) (s : Situation) (a o : ℕ) (t : Situation) → length (target .fences) ≤ 16
+    → letterAnswer way up target s a ≡ taken o t → Output o
+letter-output way up target s a o t few e = look (letter-fence way up target s a o t e)
+  where
+    look : (o < length (target .fences)) ⊎ (o ≡ 255) → Output o
+    look (inl h) = inl (omega arith)
+    look (inr h) = inr h
 
 -- an answer to a letter is the machine's step
 pub answered-step : (way : Way) (up target : Model) {s z : Situation} {a : ℕ} {y : Answer ℕ Situation} → a < lettersOf up → s ≡ z

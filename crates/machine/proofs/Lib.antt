@@ -8,3 +8,5 @@ pub mod Firsts
 pub mod Exploration
 pub mod Letters
 pub mod Breadth
+pub mod Finish
+pub mod Zeros

@@ -5,11 +5,12 @@ use mathlib.Core.List.{List, _++_, append-nil}
 use native.Mathlib.Omega.{arith}
 use lib.ListN.{length, take, drop, drop-of-length-le}
 use lib.Seq.{take-all}
-use Rattle.mealy.specs.Classes.{Coarse, Round}
+use Rattle.mealy.specs.Runs.{Machine}
+use Rattle.mealy.specs.Classes.{Coarse, Round, States}
 use Rattle.mealy.proofs.Refining.{split-coarse, round-start, round-next, round-end}
 use Rattle.machine.specs.Index.{capacity, Scratch}
 use Rattle.machine.specs.Words.{words, at, tabled, key}
-use Rattle.machine.specs.Refine.{Named, named, crowded, Rounded, rounded, overfull, Refined, refined, overmany, Begun}
+use Rattle.machine.specs.Refine.{Named, named, crowded, Rounded, rounded, overfull, Refined, refined, overmany, Begun, Crowd}
 use Rattle.machine.proofs.Keys.{key-split}
 
 -- a list copied over one of its length
@@ -145,3 +146,11 @@ module _ {letters : ℕ} {table : List ℕ} {k : ℕ} {classes finer pairs links
         spare = spare ∙ x .spare;
         scratch = s;
       }
+
+pub refined-crowd : {m : Machine ℕ ℕ} {k : ℕ} {classes : List ℕ} {r : ℕ} → Refined m k classes r → 255 < r → Crowd m k
+refined-crowd (refined few states) h = absurd (omega arith)
+refined-crowd (overmany e crowd) h = crowd
+
+pub refined-states : {m : Machine ℕ ℕ} {k : ℕ} {classes : List ℕ} {r : ℕ} → Refined m k classes r → r ≤ 255 → States m k (at classes) r
+refined-states (refined few states) h = states
+refined-states (overmany e crowd) h = absurd (omega arith)

@@ -6,7 +6,7 @@ use mathlib.Core.List.{List}
 use lib.ListN.{length, set}
 use Rattle.rule.specs.declared.situation.Situation.{Situation}
 use Rattle.rule.specs.Situation.{fresh}
-use Rattle.mealy.specs.Runs.{Answer, taken, Machine}
+use Rattle.mealy.specs.Runs.{taken, Machine}
 use Rattle.mealy.specs.Arrivals.{arrival, More}
 use Rattle.mealy.specs.Exploring.{Exploring}
 use Rattle.machine.specs.Index.{capacity, needAt, lowAt, Index, Placed}

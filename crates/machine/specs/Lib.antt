@@ -4,3 +4,4 @@ pub mod Refine
 pub mod Rows
 pub mod Shim
 pub mod Explore
+pub mod Generated

@@ -1,6 +1,5 @@
 -- The rule as a machine: its situations, its step, its alphabet. 01: "by operation in the order l, L, s, S, 0 upwards".
 use Prim.Native.Nat.{ℕ, _+_, _-_}
-use mathlib.Core.Path.{_≡_}
 use mathlib.Core.List.{List}
 use lib.ListN.{length}
 use lib.Dec.{ltb, eqb}

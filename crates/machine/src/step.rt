@@ -1,7 +1,6 @@
 // One step of the rule, by a letter of the alphabet.
 ghost use mathlib.Core.Path.{_≡_};
-ghost use Prim.Native.Nat.{_+_, _<_};
-ghost use lib.ListN.{length};
+ghost use Prim.Native.Nat.{_<_};
 ghost use Rattle.machine.specs.Shim.{kindOf, stepAnswer, letterAnswer, meant};
 use rule::operation::Kind;
 use rule::situation::Situation;

@@ -37,6 +37,11 @@ module _ {S O : Type 0} (m : Machine S O) (R : S → S → Type 0) (eq : Alike R
       (λ i j p q l e. more .apart i j l q (eq .on _ _ _ (eq .back _ _ (to i p .2)) (rw (← e) at (to j q .2)))) in
       omega (arith, fits, few .few, more .many)
 
+  -- so many first arrivals, at most so many classes
+  pub arrivals-at-most : {ws : List (List ℕ)} → Arrivals m R ws → (n : ℕ) → length ws ≤ n → AtMost m R n
+  arrivals-at-most {ws} a n h =
+      record { streams = ws; few = h; covers = λ w g. let to = a .covers w g in (to .0, to .1, to .2) }
+
   -- the numbers of arrivals go by the order of their streams
   pub rising-back : {ws : List (List ℕ)} → Arrivals m R ws → (i j : ℕ) → i < length ws → j < length ws → getD ws i [] ≺ getD ws j [] → i < j
   rising-back {ws} a i j p q h =

@@ -19,10 +19,10 @@ impl Comparison {
         ensures { λ r. ⌜ r ≡ numberOf self ⌝ }
     {
         match self {
-            Comparison::Equal => 0,
-            Comparison::FirstStronger => 1,
-            Comparison::SecondStronger => 2,
-            Comparison::Neither => 3,
+            Self::Equal => 0,
+            Self::FirstStronger => 1,
+            Self::SecondStronger => 2,
+            Self::Neither => 3,
         }
     }
 }

@@ -1,37 +1,27 @@
 -- The direct run byte by byte is the direct run by the rule. Assumes nothing.
 use Prim.Native.Nat.{ℕ, suc, _+_}
 use mathlib.Core.Path.{_≡_, refl, sym, ap, ap₂, _∙_}
-use mathlib.Core.List.{List, [], _∷_, _++_, map}
+use mathlib.Core.List.{List, [], _∷_, _++_, map, map-append}
 use mathlib.Core.Option.{Option, none, some}
 use native.Mathlib.Omega.{arith}
-use lib.Dec.{ltb}
 use lib.ListN.{length}
-use mathlib.Core.Bool.{Bool, true, false}
-use Rattle.tables.specs.Table.{choose}
 use Rattle.answers.specs.declared.Refusal.{Refusal}
 use Rattle.rule.specs.declared.operation.Kind.{Kind}
 use Rattle.rule.specs.declared.operation.Operation.{Operation}
-use Rattle.rule.specs.declared.operation.Byte.{Byte}
 use Rattle.rule.specs.declared.situation.Situation.{Situation}
 use Rattle.rule.specs.declared.way.Way.{Way}
 use Rattle.rule.specs.declared.way.Step.{Step}
-use Rattle.rule.specs.Operation.{byteIs, accessByte, fenceByte, written}
+use Rattle.rule.specs.Operation.{accessByte, fenceByte, written}
 use Rattle.rule.specs.Stream.{Stream, access, fence}
 use Rattle.rule.specs.Pairs.{Model, fenceTable}
 use Rattle.rule.specs.Rule.{Ran, done, refused, behind, run}
 use Rattle.rule.specs.Situation.{asks, fresh, stepped, resumed, steps}
-use Rattle.rule.proofs.Bytes.{read-written}
-use Rattle.rule.proofs.Choices.{differ}
 use Rattle.rule.proofs.Theorems.{steps-are-the-rule}
-use Rattle.runs.specs.declared.Move.{Move}
-use Rattle.runs.specs.Bytes.{Judged, good, bad, judged, judgedAs, operations, operationsFrom, fault, faultFrom, Outcome, put, refuse, outcomeOf, direct}
-use Rattle.runs.specs.Moves.{movedBy, movedAs, moved, ahead, movesOn, moves}
+use Rattle.runs.specs.Bytes.{Judged, good, bad, judged, operations, operationsFrom, fault, faultFrom, Outcome, put, refuse, outcomeOf, direct}
+use Rattle.runs.specs.Moves.{movedBy, movedAs, ahead, movesOn, moves}
+use Rattle.runs.proofs.Judging.{good-byte}
 
-written-append : (p s : Stream) → map written (p ++ s) ≡ map written p ++ map written s
-written-append [] s = refl
-written-append (op ∷ p) s = ap (λ (l : List ℕ). written op ∷ l) (written-append p s)
-
-ahead-none : (x : Outcome) → ahead [] x ≡ x
+pub ahead-none : (x : Outcome) → ahead [] x ≡ x
 ahead-none (put bytes) = refl
 ahead-none (refuse why) = refl
 
@@ -40,31 +30,10 @@ outcome-behind : (at : ℕ) (p : Stream) (x : Ran) (f : Option Refusal) → outc
 outcome-behind at p (refused i) f =
     let e : at + suc i ≡ suc at + i = omega arith in
     ap (λ (n : ℕ). refuse (Refusal.NoFenceWillDo n)) e
-outcome-behind at p (done out) none = ap put (written-append p out)
+outcome-behind at p (done out) none = ap put (map-append written p out)
 outcome-behind at p (done out) (some why) = refl
 
--- an access is passed on as it came
-same-byte : (n at b : ℕ) (k : Kind) → judged n at b ≡ good (Operation.Access k) → accessByte k ≡ b
-same-byte n at b k e = is (byteIs b) refl
-  where
-    tested : (t : Bool) (f : ℕ) → choose t (good (Operation.Fence f)) (bad (Refusal.NoSuchFence at)) ≡ good (Operation.Access k) → accessByte k ≡ b
-    tested true f h = differ (cc)
-    tested false f h = differ (cc)
-
-    is : (x : Byte) → byteIs b ≡ x → accessByte k ≡ b
-    is Byte.Nothing h =
-        let z : bad (Refusal.NoOperation at) ≡ good (Operation.Access k) = sym (ap (judgedAs n at) h) ∙ e in
-        differ (cc)
-    is (Byte.Is (Operation.Access j)) h =
-        let z : good (Operation.Access j) ≡ good (Operation.Access k) = sym (ap (judgedAs n at) h) ∙ e in
-        let m : j ≡ k = cc in
-        sym (ap accessByte m) ∙ read-written b (Operation.Access j) h
-    is (Byte.Is (Operation.Fence f)) h = tested (ltb f n) f (sym (ap (judgedAs n at) h) ∙ e)
-
 module _ (way : Way) (up target : Model) where
-  n : ℕ
-  n = length (up .fences)
-
   by-step : (at b : ℕ) (k : Kind) (f : Option Refusal) (ops : Stream) (more : Situation → Outcome) → accessByte k ≡ b
       → ((s : Situation) → outcomeOf (suc at) (steps way up target s ops) f ≡ more s) → (x : Step)
       → outcomeOf at (resumed k (λ (next : Situation). steps way up target next ops) x) f ≡ movesOn b more (movedBy at x)
@@ -84,7 +53,7 @@ module _ (way : Way) (up target : Model) where
   by-judged s at b f ops more h (good (Operation.Fence g)) e =
       outcome-behind at [] (steps way up target (asks (fenceTable up g) s) ops) f ∙ ap (ahead []) (h (asks (fenceTable up g) s)) ∙ ahead-none _
   by-judged s at b f ops more h (good (Operation.Access k)) e =
-      by-step at b k f ops more (same-byte (length (up .fences)) at b k e) h (stepped way (up .ppo) target s k)
+      by-step at b k f ops more (good-byte (length (up .fences)) at b (Operation.Access k) e) h (stepped way (up .ppo) target s k)
 
   from-here : (bytes : List ℕ) (s : Situation) (at : ℕ)
       → outcomeOf at (steps way up target s (operations (length (up .fences)) at bytes)) (fault (length (up .fences)) at bytes)

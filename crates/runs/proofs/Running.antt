@@ -13,6 +13,7 @@ use Rattle.rule.specs.Operation.{fenceByte}
 use Rattle.rule.specs.Pairs.{Model}
 use Rattle.rule.specs.Situation.{fresh}
 use Rattle.rule.proofs.Choices.{differ}
+use Rattle.runs.proofs.ByMoves.{ahead-none}
 use Rattle.runs.specs.declared.Move.{Move}
 use Rattle.runs.specs.declared.Progress.{Progress}
 use Rattle.runs.specs.declared.Turn.{Turn}
@@ -23,10 +24,6 @@ use Rattle.runs.specs.Moves.{moved, ahead, movesOn, moves, turned, laid,
 ahead-ahead : (p q : List ℕ) (x : Outcome) → ahead p (ahead q x) ≡ ahead (p ++ q) x
 ahead-ahead p q (put bytes) = ap put (sym (append-assoc p q bytes))
 ahead-ahead p q (refuse why) = refl
-
-ahead-nothing : (x : Outcome) → ahead [] x ≡ x
-ahead-nothing (put bytes) = refl
-ahead-nothing (refuse why) = refl
 
 -- one byte laid behind n, and two
 laid-one : (l : List ℕ) (n b : ℕ) → n < length l → take (n + 1) (set l n b) ≡ take n l ++ (b ∷ [])
@@ -50,7 +47,7 @@ module _ (way : Way) (up target : Model) (stream : List ℕ) where
 
   pub starts : (buffer : List ℕ) → length buffer ≡ 8192 → Running fresh 0 0 buffer
   starts buffer size =
-      record { here = omega arith; room = omega arith; size = size; whole = sym (ahead-nothing (moves way up target fresh 0 stream)) }
+      record { here = omega arith; room = omega arith; size = size; whole = sym (ahead-none (moves way up target fresh 0 stream)) }
 
   module _ {situation : Situation} {written at : ℕ} {buffer : List ℕ} (run : Running situation written at buffer) where
     -- with the next byte, the whole is what that byte does and what follows
@@ -119,7 +116,7 @@ module _ (way : Way) (up target : Model) (stream : List ℕ) where
         let q : record { situation = next; written = written } ≡ p = cc in
         subst (λ (p : Progress). Running (p .situation) (p .written) (at + 1) buffer) q
         (more next written buffer [] l (omega (arith, run .room)) refl (sym (append-nil (take written buffer)))
-        (turns-by (Move.Silent next) l e ∙ ap (ahead (take written buffer)) (sym (ahead-nothing (moves way up target next (at + 1) (drop (at + 1) stream))))))
+        (turns-by (Move.Silent next) l e ∙ ap (ahead (take written buffer)) (sym (ahead-none (moves way up target next (at + 1) (drop (at + 1) stream))))))
     goes (Move.Plain next) p l few e t =
         let q : record { situation = next; written = written + 1 } ≡ p = cc in
         subst (λ (p : Progress). Running (p .situation) (p .written) (at + 1) (set buffer written (getD stream at 0))) q

@@ -1,3 +1,4 @@
 pub mod Bytes
 pub mod Call
+pub mod Marked
 pub mod Moves

@@ -11,11 +11,11 @@ use Rattle.tables.specs.declared.table.Column.{Column}
 use Rattle.tables.specs.declared.table.Table.{Table}
 use Rattle.tables.specs.declared.table.Merge.{Merge}
 use Rattle.tables.specs.Cells.{digit, packed}
-use Rattle.tables.specs.Table.{rowNumber, columnNumber, cells, place, cell, choose, rowOf, columnOf, table, Clean, excess, merged, mergedTable, atLeast, singleTable, levelsTable}
+use Rattle.tables.specs.Table.{rowNumber, columnNumber, cells, place, cell, choose, rowOf, columnOf, table, Clean, excess, merged, mergedTable, atLeast, levelsTable}
 use mathlib.Core.List.{List}
 use lib.ListN.{getD}
 use Rattle.tables.proofs.Excess.{excess-none, excess-below, excess-lifts}
-use Rattle.tables.proofs.Packed.{packed-below, packed-cong, digit-packed, packed-own, single-packed}
+use Rattle.tables.proofs.Packed.{packed-below, packed-cong, digit-packed, packed-own}
 
 -- a cell is one of the four strengths
 pub cell-below : (t : Table) (r : Row) (c : Column) → cell t r c < 4
@@ -164,15 +164,6 @@ pub cells-at-least : (a b : Table) → ((r : Row) (c : Column) → cell b r c �
 unfolding atLeast mergedTable
 cells-at-least a b h =
     eq-eqb _ _ (ap (λ (t : Table). t .packed) (table-cong _ (λ (r : Row) (c : Column). 0) (λ r c. excess-none _ _ (h r c)) ∙ table-none))
-
--- the number that holds one cell and nothing else is the table of that cell
-pub single-place : (r : Row) (c : Column) (s : ℕ) → record { packed = s % 4 * 2 ^ (2 * place r c) } ≡ singleTable r c s
-unfolding singleTable table
-single-place r c s =
-    ap (λ (n : ℕ). record { packed = n })
-    (sym (single-packed s (place r c) cells (omega (arith, row-below r, column-below c)))
-    ∙ packed-cong (λ (j : ℕ). choose (eqb j (place r c)) s 0) _ cells
-    (λ i l. ap (λ (k : ℕ). choose (eqb k (place r c)) s 0) (sym (place-own i l))))
 
 -- levels packed place by place are their table
 pub levels-places : (levels : List ℕ) → record { packed = packed (λ (i : ℕ). getD levels i 0) cells } ≡ levelsTable levels

@@ -1,16 +1,12 @@
 -- Laws of numbers read as cells of two bits: what a packed number holds, and that its cells determine it. Assumes nothing.
 use Prim.Native.Nat.{ℕ, zero, suc, _+_, _*_, _-_, _/_, _%_, _^_, _≤_, _<_}
 use mathlib.Core.Path.{_≡_, refl, sym, ap, ap₂, _∙_}
-use native.Mathlib.Nat.{mod-lt, mod-mod, mod-one, mod-eq-of-lt, div-eq-of-lt, zero-add, add-mul-div-left, add-mul-div-right, add-mul-mod-self-left, mul-comm, mul-left-comm, add-comm, add-zero, zero-mul}
+use native.Mathlib.Nat.{mod-lt, mod-mod, mod-one, mod-eq-of-lt, div-eq-of-lt, zero-add, add-mul-div-left, add-mul-div-right, add-mul-mod-self-left, mul-comm, mul-left-comm, add-comm}
 use native.Mathlib.Decide.{decLt}
 use native.Mathlib.Omega.{arith}
 use lib.Arith.{digits-lt, mod-mul}
 use lib.Pow.{pow-pos, pow-mono, pow-add}
-use borrow.Author.Tests.{eq-eqb, ne-eqb}
-use lib.Dec.{eqb}
-use mathlib.Core.Bool.{Bool}
 use Rattle.tables.specs.Cells.{digit, packed}
-use Rattle.tables.specs.Table.{choose}
 
 -- one place up is four times as much
 four : (n : ℕ) → 2 ^ (2 * suc n) ≡ 4 * 2 ^ (2 * n)
@@ -89,26 +85,3 @@ packed-digits t (suc n) =
 -- a number with no bit beyond its cells is what its cells pack to
 pub packed-own : (t n : ℕ) → t < 2 ^ (2 * n) → packed (digit t) n ≡ t
 packed-own t n l = packed-digits t n ∙ mod-eq-of-lt l
-
--- one cell packed among cells of nought
-single-above : (x i n : ℕ) → n ≤ i → packed (λ (j : ℕ). choose (eqb j i) x 0) n ≡ 0
-single-above x i zero h = refl
-single-above x i (suc n) h =
-    ap₂ (λ (p : ℕ) (b : Bool). p + choose b x 0 % 4 * 2 ^ (2 * n)) (single-above x i n (omega arith)) (ne-eqb n i (omega arith))
-    ∙ ap (λ (m : ℕ). 0 + m) (zero-mul (2 ^ (2 * n)))
-
-pub single-packed : (x i n : ℕ) → i < n → packed (λ (j : ℕ). choose (eqb j i) x 0) n ≡ x % 4 * 2 ^ (2 * i)
-single-packed x i zero h = absurd (omega arith)
-single-packed x i (suc n) h = at (λ below. single-packed x i n below) (decLt i n)
-  where
-    f : ℕ → ℕ
-    f j = choose (eqb j i) x 0
-
-    at : (i < n → packed f n ≡ x % 4 * 2 ^ (2 * i)) → Dec (i < n) → packed f (suc n) ≡ x % 4 * 2 ^ (2 * i)
-    at lower (yes below) =
-        ap₂ (λ (p : ℕ) (b : Bool). p + choose b x 0 % 4 * 2 ^ (2 * n)) (lower below) (ne-eqb n i (omega arith))
-        ∙ ap (λ (m : ℕ). x % 4 * 2 ^ (2 * i) + m) (zero-mul (2 ^ (2 * n))) ∙ add-zero _
-    at lower (no above) =
-        let e : n ≡ i = omega arith in
-        ap₂ (λ (p : ℕ) (b : Bool). p + choose b x 0 % 4 * 2 ^ (2 * n)) (single-above x i n (omega arith)) (eq-eqb n i e)
-        ∙ zero-add _ ∙ ap (λ (m : ℕ). x % 4 * 2 ^ (2 * m)) e

@@ -90,10 +90,6 @@ rowTable r = table (λ (s : Row) (c : Column). choose (eqb (rowNumber s) (rowNum
 unfoldable pub columnTable : Column → Table
 columnTable c = table (λ (r : Row) (d : Column). choose (eqb (columnNumber d) (columnNumber c)) 3 0)
 
--- one cell, `-` elsewhere
-unfoldable pub singleTable : Row → Column → ℕ → Table
-singleTable r c s = table (λ (q : Row) (d : Column). choose (eqb (place q d) (place r c)) s 0)
-
 -- sixteen levels, row after row
 unfoldable pub levelsTable : List ℕ → Table
 levelsTable levels = table (λ (r : Row) (c : Column). getD levels (place r c) 0)

@@ -3,7 +3,7 @@
 ghost use mathlib.Core.Path.{_≡_};
 ghost use Prim.Native.Nat.{ℕ, _+_, _*_, _^_, _<_};
 ghost use Rattle.tables.specs.Cells.{digit, packed};
-ghost use Rattle.tables.specs.Table.{rowNumber, columnNumber, place, cells, cell, higher, lower, exceeding, atLeast, rowTable, columnTable, singleTable, levelsTable, merged, mergedTable};
+ghost use Rattle.tables.specs.Table.{rowNumber, columnNumber, place, cells, cell, higher, lower, exceeding, atLeast, rowTable, columnTable, levelsTable, merged, mergedTable};
 use crate::strength::Strength;
 
 // The earlier access of a pair, by its kind.
@@ -125,16 +125,6 @@ impl Table {
             i += 1;
         }
         Table { packed: t }
-    }
-
-    // The strength in its cell, `-` elsewhere. Of a level above S only what fits a cell is taken.
-    pub fn single(row: Row, column: Column, strength: Strength) -> Table
-        ensures { λ r. ⌜ r ≡ singleTable row column (strength .level) ⌝ }
-    {
-        let level = (strength.level % 4) as u64;
-        Table {
-            packed: with_digit(0, place_of(row, column), level),
-        }
     }
 }
 

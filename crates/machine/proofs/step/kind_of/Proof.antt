@@ -1,8 +1,4 @@
-use borrow.Author.Needs.{needs}
 use borrow.Author.Tests.{eq-eqb, ne-eqb}
-use native.Mathlib.Omega.{arith}
-use mathlib.Core.Path.{_≡_, refl, sym, _∙_}
-use Prim.Native.Nat.{ℕ, _+_, _-_, _*_, _≤_, _<_}
 use Rattle.machine.proofs.step.kind_of.Statement.{statement}
 use Rattle.machine.proofs.step.kind_of.Tie as tie
 use Rattle.machine.proofs.step.kind_of.Reads as reads

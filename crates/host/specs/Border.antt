@@ -1,0 +1,21 @@
+-- What the C host gets. Document 01: "The translator host is written in C and calls the library with numbers and byte regions." The refusal's
+-- number is the first of the five numbers of an answer, and is returned too; 0 is success.
+use Prim.Native.Nat.{ℕ}
+use Rattle.answers.specs.declared.Answer.{Answer}
+use Rattle.answers.specs.declared.Refusal.{Refusal}
+use Rattle.answers.specs.Answer.{numberOf}
+use Rattle.models.specs.declared.comparison.Compared.{Compared}
+use Rattle.models.specs.Comparison as Comparison
+
+abbrev pub numberIn : Answer → ℕ
+numberIn (Answer.Done written fences state) = 0
+numberIn (Answer.Refused why) = numberOf why
+
+-- a comparison as an answer, and as its relation: 0 equal, 1 first stronger, 2 second stronger, 3 neither; 0 where refused
+abbrev pub comparedAs : Compared → Answer
+comparedAs (Compared.Found is) = Answer.Done 0 0 0
+comparedAs (Compared.Refused why) = Answer.Refused why
+
+abbrev pub relationOf : Compared → ℕ
+relationOf (Compared.Found is) = Comparison.numberOf is
+relationOf (Compared.Refused why) = 0

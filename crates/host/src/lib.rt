@@ -1,0 +1,97 @@
+// The calls for the C host: numbers as themselves, a region as a pointer and a length, and the answer's five numbers through a pointer that
+// every call sets whole. Each is one line over a call of a crate below.
+ghost use mathlib.Core.Path.{_≡_};
+ghost use lib.ListN.{length};
+ghost use Rattle.answers.specs.Answer.{numbersOf};
+ghost use Rattle.models.specs.Text.{textOf};
+ghost use Rattle.models.specs.Reading.{reading};
+ghost use Rattle.models.specs.BuiltIns.{builtIn, builtInReading};
+ghost use Rattle.models.specs.Calls.{answerAfter, bufferAfter};
+ghost use Rattle.models.specs.Comparison.{comparing};
+ghost use Rattle.runs.specs.Call.{outcome, answerOf, bufferOf};
+ghost use Rattle.host.specs.Border.{numberIn, relationOf, comparedAs};
+use answers::Answer;
+use models::comparison::Compared;
+
+// Sets the five numbers, and returns the first of them, the refusal's number.
+fn tell(what: Answer, answer: &mut [u64; 5]) -> u64
+    ensures number { λ r. ⌜ r ≡ numberIn what ⌝ }
+    ensures numbers { λ _. ⌜ now (answer .exit) ≡ numbersOf what ⌝ }
+{
+    let numbers = what.numbers();
+    *answer = numbers;
+    numbers[0]
+}
+
+#[no_mangle]
+pub extern "C" fn shim_builtin(number: u64, out: &mut [u8], answer: &mut [u64; 5]) -> u64
+    ensures number { λ r. ⌜ r ≡ numberIn (answerAfter (builtInReading number .verdict) (textOf (builtIn number)) (now (out .entry))) ⌝ }
+    ensures answer { λ _. ⌜ now (answer .exit) ≡ numbersOf (answerAfter (builtInReading number .verdict) (textOf (builtIn number)) (now (out .entry))) ⌝ }
+    ensures buffer { λ _. ⌜ now (out .exit) ≡ bufferAfter (builtInReading number .verdict) (textOf (builtIn number)) (now (out .entry)) ⌝ }
+{
+    tell(models::calls::write_built_in(number, out), answer)
+}
+
+#[no_mangle]
+pub extern "C" fn shim_model(text: &[u8], out: &mut [u8], answer: &mut [u64; 5]) -> u64
+    ensures number { λ r. ⌜ r ≡ numberIn (answerAfter (reading (now (text .entry)) .verdict) (now (text .entry)) (now (out .entry))) ⌝ }
+    ensures answer { λ _. ⌜ now (answer .exit) ≡ numbersOf (answerAfter (reading (now (text .entry)) .verdict) (now (text .entry)) (now (out .entry))) ⌝ }
+    ensures buffer { λ _. ⌜ now (out .exit) ≡ bufferAfter (reading (now (text .entry)) .verdict) (now (text .entry)) (now (out .entry)) ⌝ }
+{
+    tell(models::calls::rewrite(text, out), answer)
+}
+
+#[no_mangle]
+pub extern "C" fn shim_run<'a>(
+    way: u64,
+    upstream: &'a [u8],
+    target: &'a [u8],
+    stream: &'a [u8],
+    out: &mut [u8],
+    answer: &mut [u64; 5],
+) -> u64
+    ensures number { λ r. ⌜ r ≡ numberIn (answerOf (outcome way (now (upstream .entry)) (now (target .entry)) (now (stream .entry))) (length (now (out .entry)))) ⌝ }
+    ensures answer { λ _. ⌜ now (answer .exit) ≡ numbersOf (answerOf (outcome way (now (upstream .entry)) (now (target .entry)) (now (stream .entry))) (length (now (out .entry)))) ⌝ }
+    ensures buffer { λ _. ⌜ now (out .exit) ≡ bufferOf (outcome way (now (upstream .entry)) (now (target .entry)) (now (stream .entry))) (now (out .entry)) ⌝ }
+{
+    tell(runs::run(way, upstream, target, stream, out), answer)
+}
+
+// The relation, 0 to 3, of the first to the second; 0 where a text is refused.
+#[no_mangle]
+pub extern "C" fn shim_compare<'a>(
+    first: &'a [u8],
+    second: &'a [u8],
+    relation: &mut u64,
+    answer: &mut [u64; 5],
+) -> u64
+    ensures number { λ r. ⌜ r ≡ numberIn (comparedAs (comparing (now (first .entry)) (now (second .entry)))) ⌝ }
+    ensures relation { λ _. ⌜ now (relation .exit) ≡ relationOf (comparing (now (first .entry)) (now (second .entry))) ⌝ }
+    ensures answer { λ _. ⌜ now (answer .exit) ≡ numbersOf (comparedAs (comparing (now (first .entry)) (now (second .entry)))) ⌝ }
+{
+    let compared = models::comparison::compare(first, second);
+    *relation = relation_in(compared);
+    tell(as_answer(compared), answer)
+}
+
+fn relation_in(compared: Compared) -> u64
+    ensures { λ r. ⌜ r ≡ relationOf compared ⌝ }
+{
+    match compared {
+        Compared::Found(is) => is.number(),
+        Compared::Refused(_) => 0,
+    }
+}
+
+fn as_answer(compared: Compared) -> Answer
+    ensures { λ r. ⌜ r ≡ comparedAs compared ⌝ }
+{
+    match compared {
+        Compared::Found(_) => Answer::Done {
+            written: 0,
+            fences: 0,
+            state: 0,
+        },
+        Compared::Refused(why) => Answer::Refused(why),
+    }
+}

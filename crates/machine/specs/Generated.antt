@@ -1,0 +1,74 @@
+-- What generating gives. 01, "The machine", and of its table of refusals 8, "the reachable situations exceed 4,096", and 9, "the states exceed 255",
+-- in this order, with 7, "what must be written exceeds the buffer", last.
+use Prim.Native.Nat.{ℕ, _+_, _*_, _/_, _%_, _≤_, _<_}
+use mathlib.Core.Path.{_≡_}
+use mathlib.Core.Logic.{_⊎_}
+use mathlib.Core.List.{List}
+use lib.ListN.{length, take}
+use Rattle.tables.specs.declared.table.Table.{Table}
+use Rattle.rule.specs.declared.situation.Situation.{Situation}
+use Rattle.rule.specs.declared.way.Way.{Way}
+use Rattle.mealy.specs.Runs.{Answer, Machine as Mealy, Same}
+use Rattle.mealy.specs.Arrivals.{More, AtMost, Described}
+use Rattle.machine.specs.Words.{stride, at}
+use Rattle.machine.specs.Rows.{rowOf}
+use Rattle.machine.specs.Shim.{shimOf}
+use Rattle.machine.specs.declared.machine.Machine.{Machine}
+use Rattle.machine.specs.declared.machine.Outcome.{Outcome}
+
+-- a way's number in an image
+abbrev pub wayNumber : Way → ℕ
+wayNumber Way.Sparing = 0
+wayNumber Way.Full = 1
+
+-- the word of a refusal; and one of an output, which is a target fence's number or none, and of a next state
+pub data Canonical (targets states w : ℕ) : Type 0 where
+  refusing : w ≡ 65024 → Canonical targets states w
+  passing : (w / 256 < targets) ⊎ (w / 256 ≡ 255) → w % 256 < states → Canonical targets states w
+
+-- the machine made: its rows describe the states, and all else of the array is as it was
+pub record Making (m : Mealy Situation ℕ) (way : Way) (ups targets : ℕ) (rows : List ℕ) (x : Machine) (rows′ : List ℕ) : Type 0 where
+  pub way-number : x .way ≡ wayNumber way
+  pub its-ups : x .ups ≡ ups
+  pub its-targets : x .targets ≡ targets
+  pub few-situations : AtMost m _≡_ 4096
+  pub few-states : x .states ≤ 255
+  pub states : Described m (Same m) (x .states) (rowOf rows′)
+  pub size : length rows′ ≡ length rows
+  pub room : x .states * stride ≤ length rows
+  pub words : (q a : ℕ) → q < x .states → a < 4 + ups → Canonical targets (x .states) (at rows′ (q * stride + a))
+  pub absent : (q a : ℕ) → q < x .states → 4 + ups ≤ a → a < stride → at rows′ (q * stride + a) ≡ 0
+  pub kept : (p : ℕ) → x .states * stride ≤ p → at rows′ p ≡ at rows p
+
+-- refused: and nothing is written
+pub record Crowded (m : Mealy Situation ℕ) (rows rows′ : List ℕ) : Type 0 where
+  pub same : rows′ ≡ rows
+  pub many : More m _≡_ 4096
+
+pub record Overfull (m : Mealy Situation ℕ) (rows rows′ : List ℕ) : Type 0 where
+  pub same : rows′ ≡ rows
+  pub few-situations : AtMost m _≡_ 4096
+  pub many : More m (Same m) 255
+
+pub record Roomless (m : Mealy Situation ℕ) (rows rows′ : List ℕ) : Type 0 where
+  pub same : rows′ ≡ rows
+  pub few-situations : AtMost m _≡_ 4096
+  pub states : ℕ
+  pub few-states : states ≤ 255
+  pub row : ℕ → ℕ → Answer ℕ ℕ
+  pub described : Described m (Same m) states row
+  pub short : length rows < states * stride
+
+abbrev pub Built : Mealy Situation ℕ → Way → ℕ → ℕ → List ℕ → Outcome → List ℕ → Type 0
+Built m way ups targets rows (Outcome.Made x) rows′ = Making m way ups targets rows x rows′
+Built m way ups targets rows Outcome.Situations rows′ = Crowded m rows rows′
+Built m way ups targets rows Outcome.States rows′ = Overfull m rows rows′
+Built m way ups targets rows Outcome.Room rows′ = Roomless m rows rows′
+
+-- an operation names sixteen fences at most: the first sixteen count
+abbrev pub named : List ℕ → List ℕ
+named fences = take 16 fences
+
+abbrev pub Generated : Way → Table → List ℕ → Table → List ℕ → List ℕ → Outcome → List ℕ → Type 0
+Generated way up ups target fences rows r rows′ =
+    Built (shimOf way up (named ups) target (named fences)) way (length (named ups)) (length (named fences)) rows r rows′

@@ -1,0 +1,23 @@
+use mathlib.Core.Path.{sym}
+use native.Mathlib.Omega.{arith}
+use lib.Seq.{length-take-le}
+use borrow.Author.Needs.{needs}
+use Rattle.model_calls.proofs.front.Statement.{statement}
+use Rattle.model_calls.proofs.front.Tie as tie
+use Rattle.model_calls.proofs.front.Reads as reads
+use Rattle.model_calls.proofs.front.Lts as lts
+
+-- src/main.rt:29:27
+slice-aggregate-result : tie.Need-slice-aggregate-result
+slice-aggregate-result c = sym (length-take-le _ _ (omega arith))
+
+-- src/main.rt:28:1
+returns : tie.Need-returns
+returns c = search needs
+
+-- src/main.rt:28:1
+returns-2 : tie.Need-returns-2
+returns-2 c = search needs
+
+pub front-spec : {M : Type 1} → statement M
+front-spec = tie.close (tie.spec slice-aggregate-result returns returns-2)

@@ -1,0 +1,10 @@
+//! The model held against document 01 and against itself done another way.
+
+mod common;
+mod demands;
+mod images;
+mod lists;
+mod machines;
+mod program;
+mod streams;
+mod texts;
