@@ -1,2 +1,4 @@
 pub mod Lines
 pub mod Endings
+pub mod Decimals
+pub mod Printing

@@ -1,2 +1,4 @@
 pub mod Shape
 pub mod Finding
+pub mod Decimal
+pub mod Printed
