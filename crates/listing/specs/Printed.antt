@@ -21,8 +21,9 @@ wayWord Way.Sparing = bytes "sparing"
 abbrev pub namesLine : List ℕ → List ℕ → Way → List ℕ
 namesLine upstream target way = upstream ++ (bytes " " ++ (target ++ (bytes " " ++ (wayWord way ++ bytes "\n"))))
 
-abbrev pub statesLine : ℕ → List ℕ
-statesLine k = bytes "states " ++ (decimal k ++ bytes "\n")
+-- a word and a number
+abbrev pub numberLine : List ℕ → ℕ → List ℕ
+numberLine word n = word ++ (decimal n ++ bytes "\n")
 
 -- the fence byte, `-` for none (255), or `!`; and the next state
 abbrev pub fenceMark : Answer ℕ ℕ → ℕ
@@ -50,8 +51,10 @@ rowLines row letters (suc state) = rowLines row letters state ++ stateLines stat
 abbrev pub outLine : List ℕ → List ℕ
 outLine output = bytes "out " ++ (output ++ bytes "\n")
 
-abbrev pub fencesLine : ℕ → List ℕ
-fencesLine n = bytes "fences " ++ (decimal n ++ bytes "\n")
+-- k states of so many letters, their answers, the run's output and its fences
+abbrev pub listing : List ℕ → List ℕ → Way → ℕ → ℕ → (ℕ → ℕ → Answer ℕ ℕ) → List ℕ → ℕ → List ℕ
+listing upstream target way k letters row output fences =
+    namesLine upstream target way ++ (numberLine (bytes "states ") k ++ (rowLines row letters k ++ (outLine output ++ numberLine (bytes "fences ") fences)))
 
 abbrev pub refusalLine : Refusal → List ℕ
-refusalLine why = bytes "refused " ++ (decimal (numberOf why) ++ (bytes " at " ++ (decimal (placeOf why) ++ bytes "\n")))
+refusalLine why = bytes "refused " ++ (decimal (numberOf why) ++ numberLine (bytes " at ") (placeOf why))

@@ -1,10 +1,18 @@
 // The lines of a listing, put one behind another into a buffer.
 ghost use mathlib.Core.Path.{_≡_};
-ghost use mathlib.Core.List.{[], _∷_};
+ghost use mathlib.Core.List.{_++_};
 ghost use Prim.Native.Nat.{_+_, _*_, _≤_, _<_};
 ghost use lib.ListN.{length};
-ghost use Rattle.models.specs.Writing.{Put};
+ghost use Rattle.rule.specs.Operation.{written};
+ghost use Rattle.models.specs.Bytes.{bytes};
+ghost use Rattle.models.specs.Writing.{Put, unfilled};
+ghost use Rattle.machine.specs.Shim.{operationOf};
+ghost use Rattle.machine.specs.Rows.{decoded, rowOf};
 ghost use Rattle.listing.specs.Decimal.{decimal};
+ghost use Rattle.listing.specs.Printed.{wayWord, namesLine, numberLine, fenceMark, nextState, stepLine, stateLines, rowLines, outLine, listing};
+use models::model::Name;
+use rule::operation::Operation;
+use rule::way::Way;
 
 // Puts a text behind the first `at` bytes, and tells where it ends.
 fn put(buffer: &mut [u8], at: usize, text: &[u8]) -> usize
@@ -26,4 +34,87 @@ fn put_decimal(buffer: &mut [u8], at: usize, number: u64) -> usize
     let behind = put_decimal(buffer, at, number / 10);
     let digit = [b'0' + (number % 10) as u8];
     put(buffer, behind, &digit)
+}
+
+// A word, a number and a line feed.
+fn put_number_line(buffer: &mut [u8], at: usize, word: &[u8], number: u64) -> usize
+    requires { ⌜ at + (length (now word) + (length (decimal number) + 1)) ≤ length (now buffer) ⌝ }
+    ensures { λ r. ⌜ Put (now (buffer .entry)) (now (buffer .exit)) at r (numberLine (now (word .entry)) number) ⌝ }
+{
+    let digits_at = put(buffer, at, word);
+    let end = put_decimal(buffer, digits_at, number);
+    put(buffer, end, b"\n")
+}
+
+fn letter_byte(letter: usize) -> u8
+    ensures { λ r. ⌜ r ≡ written (operationOf letter) ⌝ }
+{
+    if letter == 0 {
+        return b'l';
+    }
+    if letter == 1 {
+        return b'L';
+    }
+    if letter == 2 {
+        return b's';
+    }
+    if letter == 3 {
+        return b'S';
+    }
+    rule::operation::byte_of(Operation::Fence(letter - 4))
+}
+
+fn mark_of(word: u16) -> u8
+    ensures { λ r. ⌜ r ≡ fenceMark (decoded word) ⌝ }
+{
+    let fence = word / 256;
+    if fence == 254 {
+        return b'!';
+    }
+    if fence == 255 {
+        return b'-';
+    }
+    rule::operation::byte_of(Operation::Fence(fence as usize))
+}
+
+fn next_of(word: u16) -> u64
+    ensures { λ r. ⌜ (r ≡ nextState (decoded word)) × (r < 256) ⌝ }
+{
+    if word / 256 == 254 {
+        return 0;
+    }
+    (word % 256) as u64
+}
+
+// The line of a state and a letter.
+fn put_step(buffer: &mut [u8], at: usize, state: usize, letter: usize, word: u16) -> usize
+    requires { ⌜ (at + 12 ≤ length (now buffer)) × (state < 1000) ⌝ }
+    ensures { λ r. ⌜ Put (now (buffer .entry)) (now (buffer .exit)) at r (stepLine state letter (decoded word)) ⌝ }
+    ensures { λ r. ⌜ r ≤ at + 12 ⌝ }
+{
+    let middle_at = put_decimal(buffer, at, state as u64);
+    let middle = [b' ', letter_byte(letter), b' ', mark_of(word), b' '];
+    let next_at = put(buffer, middle_at, &middle);
+    put_number_line(buffer, next_at, b"", next_of(word))
+}
+
+fn put_name(buffer: &mut [u8], at: usize, name: Name) -> usize
+    requires { ⌜ at + 16 ≤ length (now buffer) ⌝ }
+    ensures { λ r. ⌜ Put (now (buffer .entry)) (now (buffer .exit)) at r (unfilled (name .bytes)) ⌝ }
+    ensures { λ r. ⌜ r ≤ at + 16 ⌝ }
+{
+    let held = name.bytes;
+    let n = bytes::scan::find(&held, 0, 16, 0);
+    put(buffer, at, &held[..n])
+}
+
+fn put_way(buffer: &mut [u8], at: usize, way: Way) -> usize
+    requires { ⌜ at + 8 ≤ length (now buffer) ⌝ }
+    ensures { λ r. ⌜ Put (now (buffer .entry)) (now (buffer .exit)) at r (wayWord way ++ bytes "\n") ⌝ }
+    ensures { λ r. ⌜ r ≤ at + 8 ⌝ }
+{
+    match way {
+        Way::Full => put(buffer, at, b"full\n"),
+        Way::Sparing => put(buffer, at, b"sparing\n"),
+    }
 }
