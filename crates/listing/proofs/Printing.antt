@@ -8,15 +8,18 @@ use lib.ListN.{length, take, drop, length-append}
 use lib.Seq.{take-length, length-take-le, take-at}
 use borrow.Author.Tests.{le-ltb, eq-eqb, ne-eqb}
 use lib.Dec.{ltb, eqb}
+use Rattle.bytes.specs.Bytes.{indexOf, indexAfter, slice}
 use Rattle.tables.specs.Table.{choose}
 use Rattle.rule.specs.declared.operation.Operation.{Operation}
 use Rattle.rule.specs.Operation.{fenceByte, written}
-use Rattle.models.specs.Writing.{Put}
+use Rattle.models.specs.Bytes.{bytes}
+use Rattle.models.specs.Writing.{Put, unfilled}
 use Rattle.mealy.specs.Runs.{Answer, refused, taken}
 use Rattle.mealy.specs.Arrivals.{within}
 use Rattle.machine.specs.Shim.{kindOf, operationOf}
 use Rattle.machine.specs.Rows.{decoded}
-use Rattle.listing.specs.Printed.{fenceMark}
+use Rattle.listing.specs.Decimal.{decimal}
+use Rattle.listing.specs.Printed.{fenceMark, nextState, stepLine}
 
 -- a text copied behind the first bytes
 module _ (b y d text : List ℕ) (at n : ℕ) (inside : at ≤ length b) (long : n ≡ length text) (is : y ≡ take (length text) text ++ drop (length text) d) where
@@ -50,3 +53,26 @@ mark-none w e =
 
 pub mark-fence : (w : ℕ) → (w / 256 ≡ 254 → ⊥) → (w / 256 ≡ 255 → ⊥) → fenceMark (decoded w) ≡ fenceByte (w / 256)
 mark-fence w e h = ap fenceMark (decoded-taken w e) ∙ ap (λ (q : Bool). choose q 45 (fenceByte (w / 256))) (ne-eqb _ _ h)
+
+-- the parts of a step's line
+pub step-text : (s a w l m n : ℕ) → l ≡ written (operationOf a) → m ≡ fenceMark (decoded w) → n ≡ nextState (decoded w)
+    → decimal s ++ ((32 ∷ l ∷ 32 ∷ m ∷ 32 ∷ []) ++ (decimal n ++ bytes "\n")) ≡ stepLine s a (decoded w)
+step-text s a w l m n hl hm hn =
+    ap (λ (x : ℕ). decimal s ++ ((32 ∷ x ∷ 32 ∷ m ∷ 32 ∷ []) ++ (decimal n ++ bytes "\n"))) hl
+    ∙ ap₂ (λ (x y : ℕ). decimal s ++ ((32 ∷ written (operationOf a) ∷ 32 ∷ x ∷ 32 ∷ []) ++ (decimal y ++ bytes "\n"))) hm hn
+
+-- a name ends before its first zero
+pub unfilled-is : (l : List ℕ) → take (indexOf 0 l) l ≡ unfilled l
+unfolding unfilled indexOf indexAfter
+unfilled-is [] = refl
+unfilled-is (b ∷ l) = by (eqb b 0) (unfilled-is l)
+  where
+    by : (q : Bool) → take (indexOf 0 l) l ≡ unfilled l → take (indexAfter q (indexOf 0 l)) (b ∷ l) ≡ choose q [] (b ∷ unfilled l)
+    by true e = refl
+    by false e = ap (λ (x : List ℕ). b ∷ x) e
+
+pub name-found : (l : List ℕ) (n : ℕ) → length l ≡ 16 → n ≡ 0 + indexOf 0 (slice 0 16 l) → take n l ≡ unfilled l
+unfolding slice
+name-found l n long e =
+    let k : n ≡ indexOf 0 l = omega (arith, e, ap (λ (m : ℕ). indexOf 0 (take m l)) (sym long), ap (indexOf 0) (take-length l)) in
+    ap (λ (m : ℕ). take m l) k ∙ unfilled-is l

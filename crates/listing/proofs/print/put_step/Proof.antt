@@ -1,54 +1,51 @@
+-- `put_step` meets its contract: its parts one behind another. Assumes nothing.
+use mathlib.Core.List.{[], _∷_}
+use native.Mathlib.Omega.{arith}
+use lib.ListN.{length-append}
+use Rattle.models.proofs.Putting.{put-then, put-is}
+use Rattle.listing.specs.Decimal.{decimal}
+use Rattle.listing.proofs.Decimals.{length-digits}
+use Rattle.listing.proofs.Printing.{step-text}
 use borrow.Author.Needs.{needs}
 use Rattle.listing.proofs.print.put_step.Statement.{statement}
 use Rattle.listing.proofs.print.put_step.Tie as tie
-use Rattle.listing.proofs.print.put_step.Reads as reads
-use Rattle.listing.proofs.print.put_step.Lts as lts
-use Rattle.listing.proofs.print.letter_byte.Reads as letter-byte-reads
-use Rattle.listing.proofs.print.mark_of.Reads as mark-of-reads
-use Rattle.listing.proofs.print.next_of.Reads as next-of-reads
-use Rattle.listing.proofs.print.put.Reads as put-reads
-use Rattle.listing.proofs.print.put_decimal.Reads as put-decimal-reads
-use Rattle.listing.proofs.print.put_number_line.Reads as put-number-line-reads
 
--- src/print.rt:95:9
 put-decimal-requires : tie.Need-put-decimal-requires
-put-decimal-requires c κs = ?
+put-decimal-requires c κs = omega (arith, c .before .before .pre .0, length-digits 2 (c .before .before .args .state) (c .before .before .pre .1))
 
--- src/print.rt:96:25
 letter-byte-requires : tie.Need-letter-byte-requires
 letter-byte-requires c κs = search needs
 
--- src/print.rt:96:52
 mark-of-requires : tie.Need-mark-of-requires
 mark-of-requires c κs = search needs
 
--- src/print.rt:97:42
 slice-aggregate-put : tie.Need-slice-aggregate-put
 slice-aggregate-put c = search needs
 
--- src/print.rt:97:9
 put-requires : tie.Need-put-requires
-put-requires c κs = ?
+put-requires c κs = omega (arith, c .before .before .before .before .before .before .before .before .before .pre .0, length-digits 2 (c .before .before .before .before .before .before .before .before .before .args .state) (c .before .before .before .before .before .before .before .before .before .pre .1), c .before .before .before .before .before .before .put-decimal .ensures .long, c .before .before .before .before .before .before .put-decimal .kept .0)
 
--- src/print.rt:98:38
 slice-aggregate-put-number-line : tie.Need-slice-aggregate-put-number-line
 slice-aggregate-put-number-line c = search needs
 
--- src/print.rt:98:43
 next-of-requires : tie.Need-next-of-requires
 next-of-requires c κs = search needs
 
--- src/print.rt:98:5
 put-number-line-requires : tie.Need-put-number-line-requires
-put-number-line-requires c κs = ?
+put-number-line-requires c κs = omega (arith, c .before .before .before .before .before .before .before .before .before .before .before .before .before .before .before .pre .0, length-digits 2 (c .before .before .before .before .before .before .before .before .before .before .before .before .before .before .before .args .state) (c .before .before .before .before .before .before .before .before .before .before .before .before .before .before .before .pre .1), c .before .before .before .before .before .before .before .before .before .before .before .before .put-decimal .ensures .long, c .before .before .before .before .before .before .before .before .before .before .before .before .put-decimal .kept .0,
+    c .before .before .before .before .before .put .ensures .long, c .before .before .before .before .before .put .kept .0, length-digits 2 (c .next-of .result) (omega (arith, c .next-of .ensures .1)))
 
--- src/print.rt:90:1
 same-length : tie.Need-same-length
 same-length c = search needs
 
--- src/print.rt:90:1
 returns : tie.Need-returns
-returns c = ?
+returns c = let a = c .before .before .before .before .before .before .before .before .before .before .before .before .before .before .before .before .before .before .args in
+    let n = c .before .before .before .next-of in (
+      put-is (step-text (a .state) (a .letter) (a .word) (c .before .before .before .before .before .before .before .before .before .before .before .before .letter-byte .result) (c .before .before .before .before .before .before .before .before .before .before .before .mark-of .result) (n .result) (c .before .before .before .before .before .before .before .before .before .before .before .before .letter-byte .ensures) (c .before .before .before .before .before .before .before .before .before .before .before .mark-of .ensures) (n .ensures .0))
+      (put-then (c .before .before .before .before .before .before .before .before .before .before .before .before .before .before .before .put-decimal .ensures) (put-then (c .before .before .before .before .before .before .before .before .put .ensures) (c .before .before .put-number-line .ensures))),
+      omega (arith, length-digits 2 (a .state) (c .before .before .before .before .before .before .before .before .before .before .before .before .before .before .before .before .before .before .pre .1), c .before .before .before .before .before .before .before .before .before .before .before .before .before .before .before .put-decimal .ensures .long, c .before .before .before .before .before .before .before .before .put .ensures .long, c .before .before .put-number-line .ensures .long,
+      length-digits 2 (n .result) (omega (arith, n .ensures .1)), length-append (decimal (n .result)) (10 ∷ [])),
+    )
 
 pub put-step-spec : {M : Type 1} → statement M
 put-step-spec =

@@ -1,49 +1,44 @@
+-- `put_way` meets its contract. Assumes nothing.
+use mathlib.Core.Path.{sym, ap}
+use mathlib.Core.List.{_++_}
+use native.Mathlib.Omega.{arith}
+use Rattle.rule.specs.declared.way.Way.{Way}
+use Rattle.models.specs.Bytes.{bytes}
+use Rattle.models.proofs.Putting.{put-is}
+use Rattle.listing.specs.Printed.{wayWord}
 use borrow.Author.Needs.{needs}
 use Rattle.listing.proofs.print.put_way.Statement.{statement}
 use Rattle.listing.proofs.print.put_way.Tie as tie
-use Rattle.listing.proofs.print.put_way.Reads as reads
-use Rattle.listing.proofs.print.put_way.Lts as lts
-use Rattle.listing.proofs.print.put.Reads as put-reads
 
--- src/print.rt:117:26
 enum-told : tie.Need-enum-told
 enum-told c = search needs
 
--- src/print.rt:117:38
 slice-aggregate-put : tie.Need-slice-aggregate-put
 slice-aggregate-put c = search needs
 
--- src/print.rt:117:22
 put-requires : tie.Need-put-requires
 put-requires c κs = search needs
 
--- src/print.rt:118:29
 enum-told-2 : tie.Need-enum-told-2
 enum-told-2 c = search needs
 
--- src/print.rt:118:41
 slice-aggregate-put-2 : tie.Need-slice-aggregate-put-2
 slice-aggregate-put-2 c = search needs
 
--- src/print.rt:118:25
 put-requires-2 : tie.Need-put-requires-2
 put-requires-2 c κs = search needs
 
--- src/print.rt:111:1
 same-length : tie.Need-same-length
 same-length c = search needs
 
--- src/print.rt:111:1
 returns : tie.Need-returns
-returns c = ?
+returns c = (put-is (ap (λ (w : Way). wayWord w ++ bytes "\n") (sym (c .before .before .before .before .before .enum-told .given .1))) (c .before .before .put .ensures), omega (arith, c .before .before .put .ensures .long))
 
--- src/print.rt:111:1
 same-length-2 : tie.Need-same-length-2
 same-length-2 c = search needs
 
--- src/print.rt:111:1
 returns-2 : tie.Need-returns-2
-returns-2 c = ?
+returns-2 c = (put-is (ap (λ (w : Way). wayWord w ++ bytes "\n") (sym (c .before .before .before .before .before .enum-told2 .given .1))) (c .before .before .put2 .ensures), omega (arith, c .before .before .put2 .ensures .long))
 
 pub put-way-spec : {M : Type 1} → statement M
 put-way-spec =
