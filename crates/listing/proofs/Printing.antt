@@ -4,6 +4,7 @@ use mathlib.Core.Path.{_≡_, refl, sym, ap, ap₂, subst, _∙_}
 use mathlib.Core.Bool.{Bool, true, false}
 use mathlib.Core.List.{List, [], _∷_, _++_, append-assoc}
 use native.Mathlib.Omega.{arith}
+use native.Mathlib.Numerals.{add-one}
 use lib.ListN.{length, take, drop, length-append}
 use lib.Seq.{take-length, length-take-le, take-at}
 use borrow.Author.Tests.{le-ltb, eq-eqb, ne-eqb}
@@ -14,12 +15,13 @@ use Rattle.rule.specs.declared.operation.Operation.{Operation}
 use Rattle.rule.specs.Operation.{fenceByte, written}
 use Rattle.models.specs.Bytes.{bytes}
 use Rattle.models.specs.Writing.{Put, unfilled}
+use Rattle.models.proofs.Putting.{put-then, put-is, nothing-put}
 use Rattle.mealy.specs.Runs.{Answer, refused, taken}
 use Rattle.mealy.specs.Arrivals.{within}
 use Rattle.machine.specs.Shim.{kindOf, operationOf}
 use Rattle.machine.specs.Rows.{decoded}
 use Rattle.listing.specs.Decimal.{decimal}
-use Rattle.listing.specs.Printed.{fenceMark, nextState, stepLine}
+use Rattle.listing.specs.Printed.{fenceMark, nextState, stepLine, stateLines, rowLines}
 
 -- a text copied behind the first bytes
 module _ (b y d text : List ℕ) (at n : ℕ) (inside : at ≤ length b) (long : n ≡ length text) (is : y ≡ take (length text) text ++ drop (length text) d) where
@@ -76,3 +78,29 @@ unfolding slice
 name-found l n long e =
     let k : n ≡ indexOf 0 l = omega (arith, e, ap (λ (m : ℕ). indexOf 0 (take m l)) (sym long), ap (indexOf 0) (take-length l)) in
     ap (λ (m : ℕ). take m l) k ∙ unfilled-is l
+
+-- lines so far, and one more
+pub no-steps : {b : List ℕ} {at : ℕ} (s : ℕ) (row : ℕ → Answer ℕ ℕ) → Put b b at at (stateLines s row 0)
+unfolding stateLines
+no-steps s row = nothing-put
+
+pub one-step-more : {a b c : List ℕ} {at r t : ℕ} (s : ℕ) (row : ℕ → Answer ℕ ℕ) (n : ℕ) → Put a b at r (stateLines s row n) → Put b c r t (stepLine s n (row n))
+    → Put a c at t (stateLines s row (n + 1))
+unfolding stateLines
+one-step-more s row n p q = put-is (sym (ap (stateLines s row) (add-one n))) (put-then p q)
+
+pub no-rows : {b : List ℕ} {at : ℕ} (row : ℕ → ℕ → Answer ℕ ℕ) (letters : ℕ) → Put b b at at (rowLines row letters 0)
+unfolding rowLines
+no-rows row letters = nothing-put
+
+pub one-row-more : {a b c : List ℕ} {at r t : ℕ} (row : ℕ → ℕ → Answer ℕ ℕ) (letters n : ℕ) → Put a b at r (rowLines row letters n)
+    → Put b c r t (stateLines n (row n) letters) → Put a c at t (rowLines row letters (n + 1))
+unfolding rowLines
+one-row-more row letters n p q = put-is (sym (ap (rowLines row letters) (add-one n))) (put-then p q)
+
+-- parts that are put one behind another, as lines
+pub as-names : (u t w s : List ℕ) → u ++ ((32 ∷ []) ++ (t ++ ((32 ∷ []) ++ (w ++ s)))) ≡ (u ++ ((32 ∷ []) ++ (t ++ ((32 ∷ []) ++ w)))) ++ s
+as-names u t w s = simp append-assoc
+
+pub as-out : (o x n s : List ℕ) → o ++ (x ++ (n ++ s)) ≡ (o ++ (x ++ n)) ++ s
+as-out o x n s = simp append-assoc

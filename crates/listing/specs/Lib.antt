@@ -2,3 +2,4 @@ pub mod Shape
 pub mod Finding
 pub mod Decimal
 pub mod Printed
+pub mod Buffer

@@ -8,6 +8,7 @@ ghost use Rattle.models.specs.Bytes.{bytes};
 ghost use Rattle.models.specs.Writing.{Put, unfilled};
 ghost use Rattle.machine.specs.Shim.{operationOf};
 ghost use Rattle.machine.specs.Rows.{decoded, rowOf};
+ghost use Rattle.listing.specs.Buffer.{Room};
 ghost use Rattle.listing.specs.Decimal.{decimal};
 ghost use Rattle.listing.specs.Printed.{wayWord, namesLine, numberLine, fenceMark, nextState, stepLine, stateLines, rowLines, outLine, listing};
 use models::model::Name;
@@ -117,4 +118,62 @@ fn put_way(buffer: &mut [u8], at: usize, way: Way) -> usize
         Way::Full => put(buffer, at, b"full\n"),
         Way::Sparing => put(buffer, at, b"sparing\n"),
     }
+}
+
+// The lines of a state.
+fn put_state(buffer: &mut [u8], at: usize, rows: &[u16], state: usize, letters: usize) -> usize
+    requires { ⌜ Room at 240 (now buffer) ⌝ }
+    requires { ⌜ (state < 255) × (letters ≤ 20) × ((state + 1) * 20 ≤ length (now rows)) ⌝ }
+    ensures { λ r. ⌜ Put (now (buffer .entry)) (now (buffer .exit)) at r (stateLines state (rowOf (now (rows .entry)) state) letters) ⌝ }
+    ensures { λ r. ⌜ r ≤ at + 240 ⌝ }
+{
+    let mut here = at;
+    let mut letter = 0;
+    while letter < letters {
+        here = put_step(buffer, here, state, letter, rows[state * 20 + letter]);
+        letter += 1;
+    }
+    here
+}
+
+// The lines of all states.
+fn put_rows(buffer: &mut [u8], at: usize, rows: &[u16], states: usize, letters: usize) -> usize
+    requires { ⌜ Room at 61200 (now buffer) ⌝ }
+    requires { ⌜ (states ≤ 255) × (letters ≤ 20) × (states * 20 ≤ length (now rows)) ⌝ }
+    ensures { λ r. ⌜ Put (now (buffer .entry)) (now (buffer .exit)) at r (rowLines (rowOf (now (rows .entry))) letters states) ⌝ }
+    ensures { λ r. ⌜ r ≤ at + 61200 ⌝ }
+{
+    let mut here = at;
+    let mut state = 0;
+    while state < states {
+        here = put_state(buffer, here, rows, state, letters);
+        state += 1;
+    }
+    here
+}
+
+// The names, the way and the number of states.
+fn put_head(buffer: &mut [u8], upstream: Name, target: Name, way: Way, states: usize) -> usize
+    requires { ⌜ (53 ≤ length (now buffer)) × (states < 1000) ⌝ }
+    ensures { λ r. ⌜ Put (now (buffer .entry)) (now (buffer .exit)) 0 r (namesLine (unfilled (upstream .bytes)) (unfilled (target .bytes)) way ++ numberLine (bytes "states ") states) ⌝ }
+    ensures { λ r. ⌜ r ≤ 53 ⌝ }
+{
+    let first = put_name(buffer, 0, upstream);
+    let target_at = put(buffer, first, b" ");
+    let second = put_name(buffer, target_at, target);
+    let way_at = put(buffer, second, b" ");
+    let states_at = put_way(buffer, way_at, way);
+    put_number_line(buffer, states_at, b"states ", states as u64)
+}
+
+// The run's output and its fences.
+fn put_run(buffer: &mut [u8], at: usize, output: &[u8], fences: usize) -> usize
+    requires { ⌜ Room at 8209 (now buffer) ⌝ }
+    requires { ⌜ (length (now output) ≤ 8192) × (fences < 10000) ⌝ }
+    ensures { λ r. ⌜ Put (now (buffer .entry)) (now (buffer .exit)) at r (outLine (now (output .entry)) ++ numberLine (bytes "fences ") fences) ⌝ }
+{
+    let output_at = put(buffer, at, b"out ");
+    let end = put(buffer, output_at, output);
+    let fences_at = put(buffer, end, b"\n");
+    put_number_line(buffer, fences_at, b"fences ", fences as u64)
 }
