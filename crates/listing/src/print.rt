@@ -8,9 +8,11 @@ ghost use Rattle.models.specs.Bytes.{bytes};
 ghost use Rattle.models.specs.Writing.{Put, unfilled};
 ghost use Rattle.machine.specs.Shim.{operationOf};
 ghost use Rattle.machine.specs.Rows.{decoded, rowOf};
-ghost use Rattle.listing.specs.Buffer.{Room};
+ghost use Rattle.listing.specs.Buffer.{Room, Listable};
 ghost use Rattle.listing.specs.Decimal.{decimal};
-ghost use Rattle.listing.specs.Printed.{wayWord, namesLine, numberLine, fenceMark, nextState, stepLine, stateLines, rowLines, outLine, listing};
+ghost use Rattle.listing.specs.Printed.{wayWord, namesLine, numberLine, fenceMark, nextState, stepLine, stateLines, rowLines, outLine, listing, refusalLine};
+use answers::Refusal;
+use machine::machine::Machine;
 use models::model::Name;
 use rule::operation::Operation;
 use rule::way::Way;
@@ -171,9 +173,43 @@ fn put_run(buffer: &mut [u8], at: usize, output: &[u8], fences: usize) -> usize
     requires { ⌜ Room at 8209 (now buffer) ⌝ }
     requires { ⌜ (length (now output) ≤ 8192) × (fences < 10000) ⌝ }
     ensures { λ r. ⌜ Put (now (buffer .entry)) (now (buffer .exit)) at r (outLine (now (output .entry)) ++ numberLine (bytes "fences ") fences) ⌝ }
+    ensures { λ r. ⌜ r ≤ at + 8209 ⌝ }
 {
     let output_at = put(buffer, at, b"out ");
     let end = put(buffer, output_at, output);
     let fences_at = put(buffer, end, b"\n");
     put_number_line(buffer, fences_at, b"fences ", fences as u64)
+}
+
+// The line of a refusal.
+pub(crate) fn put_refusal(buffer: &mut [u8], why: Refusal) -> usize
+    requires { ⌜ 53 ≤ length (now buffer) ⌝ }
+    ensures { λ r. ⌜ Put (now (buffer .entry)) (now (buffer .exit)) 0 r (refusalLine why) ⌝ }
+{
+    let number_at = put(buffer, 0, b"refused ");
+    let end = put_decimal(buffer, number_at, why.number());
+    put_number_line(buffer, end, b" at ", why.place())
+}
+
+// A whole listing, from the front of the buffer.
+pub(crate) fn put_listing<'a>(
+    buffer: &mut [u8],
+    upstream: Name,
+    target: Name,
+    way: Way,
+    machine: Machine,
+    rows: &'a [u16],
+    output: &'a [u8],
+    fences: usize,
+) -> usize
+    requires { ⌜ 73728 ≤ length (now buffer) ⌝ }
+    requires { ⌜ Listable machine (now rows) (now output) fences ⌝ }
+    ensures { λ r. ⌜ Put (now (buffer .entry)) (now (buffer .exit)) 0 r (listing (unfilled (upstream .bytes)) (unfilled (target .bytes)) way (machine .states) (4 + machine .ups) (rowOf (now (rows .entry))) (now (output .entry)) fences) ⌝ }
+    ensures { λ r. ⌜ r ≤ 73728 ⌝ }
+{
+    let states = machine.states;
+    let letters = 4 + machine.ups;
+    let rows_at = put_head(buffer, upstream, target, way, states);
+    let run_at = put_rows(buffer, rows_at, rows, states, letters);
+    put_run(buffer, run_at, output, fences)
 }

@@ -1,5 +1,8 @@
 -- `put_run` meets its contract: its parts one behind another. Assumes nothing.
+use mathlib.Core.List.{[], _∷_}
 use native.Mathlib.Omega.{arith}
+use lib.ListN.{length-append}
+use Rattle.listing.specs.Decimal.{decimal}
 use denote.Ref.{now}
 use Rattle.models.specs.Bytes.{bytes}
 use Rattle.models.proofs.Putting.{put-then, put-is}
@@ -37,9 +40,14 @@ same-length : tie.Need-same-length
 same-length c = search needs
 
 returns : tie.Need-returns
-returns c = let o = c .before .before .before .before .before .before .before .before .before .before .before .before .before .before .before .before .before .before .before .before .before in
-    put-is (as-out (bytes "out ") (now (o .args .output)) (bytes "\n") (numberLine (bytes "fences ") (o .args .fences)))
-    (put-then (c .before .before .before .before .before .before .before .before .before .before .before .before .before .before .before .before .put .ensures) (put-then (c .before .before .before .before .before .before .before .before .before .before .before .before .put2 .ensures) (put-then (c .before .before .before .before .before .before .before .put3 .ensures) (c .before .before .put-number-line .ensures))))
+returns c =
+    let o = c .before .before .before .before .before .before .before .before .before .before .before .before .before .before .before .before .before .before .before .before .before in
+    let l = c .before .before .put-number-line .ensures in (
+      put-is (as-out (bytes "out ") (now (o .args .output)) (bytes "\n") (numberLine (bytes "fences ") (o .args .fences)))
+      (put-then (c .before .before .before .before .before .before .before .before .before .before .before .before .before .before .before .before .put .ensures) (put-then (c .before .before .before .before .before .before .before .before .before .before .before .before .put2 .ensures) (put-then (c .before .before .before .before .before .before .before .put3 .ensures) l))),
+      omega (arith, o .pre .1 .0, length-digits 3 (o .args .fences) (o .pre .1 .1), c .before .before .before .before .before .before .before .before .before .before .before .before .before .before .before .before .put .ensures .long, c .before .before .before .before .before .before .before .before .before .before .before .before .put2 .ensures .long, c .before .before .before .before .before .before .before .put3 .ensures .long, l .long,
+      length-append (decimal (o .args .fences)) (10 ∷ [])),
+    )
 
 pub put-run-spec : {M : Type 1} → statement M
 put-run-spec =
