@@ -3,3 +3,4 @@ pub mod Finding
 pub mod Decimal
 pub mod Printed
 pub mod Buffer
+pub mod Listed

@@ -1,3 +1,49 @@
 // What `shimlist` prints: from the bytes of an input to the bytes of its listing, or of a refusal's line.
 mod print;
 mod shape;
+
+ghost use mathlib.Core.Path.{_≡_};
+ghost use Prim.Native.Nat.{_+_};
+ghost use lib.ListN.{length};
+ghost use Rattle.answers.specs.Written.{written, writing};
+ghost use Rattle.models.specs.Writing.{unfilled};
+ghost use Rattle.machine.specs.Rows.{rowOf};
+ghost use Rattle.listing.specs.Buffer.{Listable};
+ghost use Rattle.listing.specs.Printed.{listing, refusalLine};
+use answers::Answer;
+use answers::Refusal;
+use machine::machine::Machine;
+use models::model::Name;
+use rule::way::Way;
+
+// Writes the line of a refusal, `refused N at K`.
+pub fn refusal_line(why: Refusal, out: &mut [u8]) -> Answer
+    ensures answer { λ r. ⌜ r ≡ writing (refusalLine why) 0 0 (length (now (out .entry))) ⌝ }
+    ensures buffer { λ _. ⌜ now (out .exit) ≡ written (refusalLine why) (now (out .entry)) ⌝ }
+{
+    let mut line = [0u8; 53];
+    let n = print::put_refusal(&mut line, why);
+    answers::write_out(&line[..n], 0, 0, out)
+}
+
+// Writes a listing. It owns the buffer that the listing is put into, so that a refusal writes nothing.
+fn write_listing<'a>(
+    upstream: Name,
+    target: Name,
+    way: Way,
+    machine: Machine,
+    rows: &'a [u16],
+    output: &'a [u8],
+    fences: usize,
+    out: &mut [u8],
+) -> Answer
+    requires { ⌜ Listable machine (now rows) (now output) fences ⌝ }
+    ensures answer { λ r. ⌜ r ≡ writing (listing (unfilled (upstream .bytes)) (unfilled (target .bytes)) way (machine .states) (4 + machine .ups) (rowOf (now (rows .entry))) (now (output .entry)) fences) fences 0 (length (now (out .entry))) ⌝ }
+    ensures buffer { λ _. ⌜ now (out .exit) ≡ written (listing (unfilled (upstream .bytes)) (unfilled (target .bytes)) way (machine .states) (4 + machine .ups) (rowOf (now (rows .entry))) (now (output .entry)) fences) (now (out .entry)) ⌝ }
+{
+    let mut text = [0u8; 73728];
+    let n = print::put_listing(
+        &mut text, upstream, target, way, machine, rows, output, fences,
+    );
+    answers::write_out(&text[..n], fences, 0, out)
+}

@@ -185,6 +185,7 @@ fn put_run(buffer: &mut [u8], at: usize, output: &[u8], fences: usize) -> usize
 pub(crate) fn put_refusal(buffer: &mut [u8], why: Refusal) -> usize
     requires { ⌜ 53 ≤ length (now buffer) ⌝ }
     ensures { λ r. ⌜ Put (now (buffer .entry)) (now (buffer .exit)) 0 r (refusalLine why) ⌝ }
+    ensures { λ r. ⌜ r ≤ 53 ⌝ }
 {
     let number_at = put(buffer, 0, b"refused ");
     let end = put_decimal(buffer, number_at, why.number());

@@ -1,8 +1,9 @@
 -- `put_refusal` meets its contract: its parts one behind another. Assumes nothing.
 use Prim.Native.Nat.{ℕ}
 use mathlib.Core.Path.{ap₂}
-use mathlib.Core.List.{_++_}
+use mathlib.Core.List.{[], _∷_, _++_}
 use native.Mathlib.Omega.{arith}
+use lib.ListN.{length-append}
 use Rattle.models.specs.Bytes.{bytes}
 use Rattle.models.proofs.Putting.{put-then, put-is}
 use Rattle.listing.specs.Decimal.{decimal}
@@ -38,9 +39,15 @@ same-length : tie.Need-same-length
 same-length c = search needs
 
 returns : tie.Need-returns
-returns c = put-is
-    (ap₂ (λ (n k : ℕ). bytes "refused " ++ (decimal n ++ numberLine (bytes " at ") k)) (c .before .before .before .before .before .before .before .before .before .number .ensures) (c .before .before .before .place .ensures))
-    (put-then (c .before .before .before .before .before .before .before .before .before .before .before .before .before .put .ensures) (put-then (c .before .before .before .before .before .before .before .before .put-decimal .ensures) (c .before .before .put-number-line .ensures)))
+returns c =
+    let n = c .before .before .before .before .before .before .before .before .before .number in
+    let k = c .before .before .before .place in
+    let l = c .before .before .put-number-line .ensures in (
+      put-is (ap₂ (λ (n k : ℕ). bytes "refused " ++ (decimal n ++ numberLine (bytes " at ") k)) (n .ensures) (k .ensures))
+      (put-then (c .before .before .before .before .before .before .before .before .before .before .before .before .before .put .ensures) (put-then (c .before .before .before .before .before .before .before .before .put-decimal .ensures) l)),
+      omega (arith, c .before .before .before .before .before .before .before .before .before .before .before .before .before .put .ensures .long, c .before .before .before .before .before .before .before .before .put-decimal .ensures .long, l .long, length-digits 19 (n .result) (omega (arith, n .ok)), length-digits 19 (k .result) (omega (arith, k .ok)),
+      length-append (decimal (k .result)) (10 ∷ [])),
+    )
 
 pub put-refusal-spec : {M : Type 1} → statement M
 put-refusal-spec =
