@@ -2,3 +2,5 @@ pub mod Lines
 pub mod Endings
 pub mod Decimals
 pub mod Printing
+pub mod Made
+pub mod Direct

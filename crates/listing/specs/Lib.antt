@@ -4,3 +4,4 @@ pub mod Decimal
 pub mod Printed
 pub mod Buffer
 pub mod Listed
+pub mod Making

@@ -9,10 +9,16 @@ ghost use Rattle.answers.specs.Written.{written, writing};
 ghost use Rattle.models.specs.Writing.{unfilled};
 ghost use Rattle.machine.specs.Rows.{rowOf};
 ghost use Rattle.listing.specs.Buffer.{Listable};
+ghost use Rattle.machine.specs.Generated.{wayNumber};
 ghost use Rattle.listing.specs.Printed.{listing, refusalLine};
+ghost use Rattle.listing.specs.Listed.{answerOf, bufferOf, MachineListed, PartsListed, Listed, Answers};
+ghost use Rattle.listing.specs.Making.{madeGiven, MadeListable, Sixteen, Ran, Accepted};
+ghost use Rattle.models.specs.Reading.{reading};
 use answers::Answer;
 use answers::Refusal;
 use machine::machine::Machine;
+use machine::machine::Outcome;
+use models::model::Model;
 use models::model::Name;
 use rule::way::Way;
 
@@ -46,4 +52,56 @@ fn write_listing<'a>(
         &mut text, upstream, target, way, machine, rows, output, fences,
     );
     answers::write_out(&text[..n], fences, 0, out)
+}
+
+// Writes the listing of the machine that was made, or answers why there is none.
+fn list_made<'a>(
+    made: Outcome,
+    upstream: Name,
+    target: Name,
+    way: Way,
+    rows: &'a [u16],
+    output: &'a [u8],
+    fences: usize,
+    out: &mut [u8],
+) -> Answer
+    requires { ⌜ MadeListable made (now rows) (now output) fences ⌝ }
+    ensures answer { λ r. ⌜ r ≡ answerOf (madeGiven made upstream target way (now (rows .entry)) (now (output .entry)) fences) (length (now (out .entry))) ⌝ }
+    ensures buffer { λ _. ⌜ now (out .exit) ≡ bufferOf (madeGiven made upstream target way (now (rows .entry)) (now (output .entry)) fences) (now (out .entry)) ⌝ }
+{
+    match made {
+        Outcome::Made(machine) => write_listing(
+            upstream, target, way, machine, rows, output, fences, out,
+        ),
+        Outcome::Situations => Answer::Refused(Refusal::TooManySituations),
+        Outcome::States => Answer::Refused(Refusal::TooManyStates),
+        Outcome::Room => Answer::Refused(Refusal::BufferTooSmall),
+    }
+}
+
+// Makes the machine of two models and lists it. It owns the machine's rows, which hold 255 states.
+fn list_models<'a>(
+    way: Way,
+    upstream: Model,
+    target: Model,
+    output: &'a [u8],
+    fences: usize,
+    out: &mut [u8],
+) -> Answer
+    requires { ⌜ Sixteen upstream × Sixteen target × Ran (now output) fences ⌝ }
+    ensures { λ r. ⌜ Answers (MachineListed way upstream target (now (output .entry))) (now (out .entry)) r (now (out .exit)) ⌝ }
+{
+    let ups = upstream.tables;
+    let n = upstream.fences;
+    let targets = target.tables;
+    let k = target.fences;
+    let up_name = upstream.name;
+    let target_name = target.name;
+    let asked = upstream.ppo;
+    let offered = target.ppo;
+    let mut rows = [0u16; 5100];
+    let made = machine::generate(way, asked, &ups[..n], offered, &targets[..k], &mut rows);
+    list_made(
+        made, up_name, target_name, way, &rows, output, fences, out,
+    )
 }
