@@ -77,7 +77,7 @@ module _ (way : Way) where
   under-short upstream target stream Verdict.Accepted = onto-short (modelOf (reading upstream .model)) target stream (reading target .verdict)
   under-short upstream target stream (Verdict.Refused why) = tt
 
-  pub short : (upstream target stream : List ℕ) → Short 8192 (under way upstream target stream)
+  short : (upstream target stream : List ℕ) → Short 8192 (under way upstream target stream)
   short upstream target stream = under-short upstream target stream (reading upstream .verdict)
 
   -- a run that gives an output has had both its texts accepted
@@ -92,16 +92,23 @@ module _ (way : Way) where
       let q = accepted-by (reading target .verdict) (onStream stream (direct way (modelOf (reading upstream .model)) (modelOf (reading target .model)) stream)) (p .1) in
       (p .0, q .0)
 
-  pub by-number : (upstream target stream : List ℕ) → outcome (wayNumber way) upstream target stream ≡ under way upstream target stream
+  by-number : (upstream target stream : List ℕ) → outcome (wayNumber way) upstream target stream ≡ under way upstream target stream
   by-number upstream target stream = by way
     where
       by : (w : Way) → outcome (wayNumber w) upstream target stream ≡ under w upstream target stream
       by Way.Sparing = refl
       by Way.Full = refl
 
+-- a run that is done has left its output in the buffer, and counted its fences
+pub record Taken (x : Outcome) (w f : ℕ) (after : List ℕ) : Type 0 where
+  pub gives : x ≡ put (take w after)
+  pub fits : w ≤ length after
+  pub few : length (take w after) ≤ 8192
+  pub count : f ≡ fenceBytes (take w after)
+
 -- what the run's answer tells, where the buffer holds 8,192 bytes
 module _ (x : Outcome) (is : Short 8192 x) (buffer : List ℕ) (size : length buffer ≡ 8192) where
-  pub run-refused : {why : Refusal} → Answer.Refused why ≡ call.answerOf x (length buffer) → x ≡ refuse why
+  run-refused : {why : Refusal} → Answer.Refused why ≡ call.answerOf x (length buffer) → x ≡ refuse why
   run-refused {why} e = by x is e
     where
       by : (x : Outcome) → Short 8192 x → Answer.Refused why ≡ call.answerOf x (length buffer) → x ≡ refuse why
@@ -112,16 +119,10 @@ module _ (x : Outcome) (is : Short 8192 x) (buffer : List ℕ) (size : length bu
           let z : why ≡ w = cc in
           ap refuse (sym z)
 
-  pub record Taken (w f : ℕ) (after : List ℕ) : Type 0 where
-    pub gives : x ≡ put (take w after)
-    pub fits : w ≤ length after
-    pub few : length (take w after) ≤ 8192
-    pub count : f ≡ fenceBytes (take w after)
-
-  pub run-taken : {w f s : ℕ} {after : List ℕ} → Answer.Done w f s ≡ call.answerOf x (length buffer) → after ≡ call.bufferOf x buffer → Taken w f after
+  run-taken : {w f s : ℕ} {after : List ℕ} → Answer.Done w f s ≡ call.answerOf x (length buffer) → after ≡ call.bufferOf x buffer → Taken x w f after
   run-taken {w} {f} {s} {after} e b = by x refl is e b
     where
-      by : (y : Outcome) → x ≡ y → Short 8192 y → Answer.Done w f s ≡ call.answerOf y (length buffer) → after ≡ call.bufferOf y buffer → Taken w f after
+      by : (y : Outcome) → x ≡ y → Short 8192 y → Answer.Done w f s ≡ call.answerOf y (length buffer) → after ≡ call.bufferOf y buffer → Taken x w f after
       by (put out) h s e b =
           let z : Answer.Done w f _ ≡ Answer.Done (length out) (fenceBytes out) 0 = e ∙ writing-fits out (fenceBytes out) 0 (length buffer) (omega arith) in
           let n : w ≡ length out = cc in
@@ -135,3 +136,20 @@ module _ (x : Outcome) (is : Short 8192 x) (buffer : List ℕ) (size : length bu
             count = c ∙ ap fenceBytes (sym t);
           }
       by (refuse why) h s e b = differ (cc)
+
+-- the same of the call, with the way by its number
+module _ (way : Way) (upstream target stream : List ℕ) {n : ℕ} (is : n ≡ wayNumber way) (buffer : List ℕ) (size : length buffer ≡ 8192) where
+  the-run : outcome n upstream target stream ≡ under way upstream target stream
+  the-run = ap (λ (k : ℕ). outcome k upstream target stream) is ∙ by-number way upstream target stream
+
+  pub call-refused : {r : Answer} {why : Refusal} → r ≡ call.answerOf (outcome n upstream target stream) (length buffer) → r ≡ Answer.Refused why
+      → under way upstream target stream ≡ refuse why
+  call-refused e h =
+      run-refused (under way upstream target stream) (short way upstream target stream) buffer size
+      (sym h ∙ e ∙ ap (λ (x : Outcome). call.answerOf x (length buffer)) the-run)
+
+  pub call-taken : {r : Answer} {after : List ℕ} {w f s : ℕ} → r ≡ call.answerOf (outcome n upstream target stream) (length buffer)
+      → after ≡ call.bufferOf (outcome n upstream target stream) buffer → r ≡ Answer.Done w f s → Taken (under way upstream target stream) w f after
+  call-taken {s = s} e b h =
+      run-taken (under way upstream target stream) (short way upstream target stream) buffer size {s = s}
+      (sym h ∙ e ∙ ap (λ (x : Outcome). call.answerOf x (length buffer)) the-run) (b ∙ ap (λ (x : Outcome). call.bufferOf x buffer) the-run)

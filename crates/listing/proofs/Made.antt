@@ -10,7 +10,12 @@ use Rattle.rule.specs.declared.operation.Byte.{Byte}
 use Rattle.rule.specs.Operation.{byteIs}
 use Rattle.rule.specs.declared.way.Way.{Way}
 use Rattle.models.specs.declared.model.Model.{Model}
+use Rattle.models.specs.declared.model.Verdict.{Verdict}
+use Rattle.models.specs.declared.model.Reading.{Reading}
+use Rattle.models.specs.Reading.{reading, Told, over, departs, repeated, accepted}
 use Rattle.models.specs.Writing.{unfilled}
+use Rattle.rule.proofs.Choices.{differ}
+use Rattle.runs.proofs.Whole.{whole-when}
 use Rattle.runs.specs.Bytes.{isFence, fenceBytes}
 use Rattle.machine.specs.declared.machine.Machine.{Machine}
 use Rattle.machine.specs.declared.machine.Outcome.{Outcome}
@@ -20,7 +25,7 @@ use Rattle.machine.specs.Generated.{Making, Built, named, Generated}
 use Rattle.listing.specs.Buffer.{Listable}
 use Rattle.listing.specs.Printed.{listing}
 use Rattle.listing.specs.Listed.{Given, put, ruleOf, textOf, MachineListed, crowded, overfull, made}
-use Rattle.listing.specs.Making.{madeGiven, MadeListable, Sixteen, Ran}
+use Rattle.listing.specs.Making.{madeGiven, MadeListable, Sixteen, Ran, Accepted}
 
 one-fence : (b : Byte) → isFence b ≤ 1
 one-fence Byte.Nothing = omega arith
@@ -85,3 +90,15 @@ module _ (way : Way) (upstream target : Model) (output : List ℕ) (fences : ℕ
   pub made-listed : (r : Outcome) → Generated way (upstream .ppo) ups (target .ppo) targets rows r rows′
       → MachineListed way upstream target output (madeGiven r (upstream .name) (target .name) way rows′ output fences)
   made-listed r g = listed r (makes r g)
+
+-- a model that was read
+sixteen-told : {t : List ℕ} {r : Reading} → Told t r → r .verdict ≡ Verdict.Accepted → r .model .fences ≤ 16
+sixteen-told (over l) e = differ (cc)
+sixteen-told (departs l n k) e = differ (cc)
+sixteen-told (repeated d k l f t s) e = differ (cc)
+sixteen-told (accepted d l f t s) e = f .few
+
+pub sixteen-read : {t : List ℕ} {r : Reading} → r ≡ reading t → Told t r → Accepted t → Sixteen (r .model)
+sixteen-read e told a =
+    let v = ap (λ (r : Reading). r .verdict) e ∙ a in
+    record { few = sixteen-told told v; whole = whole-when told v }

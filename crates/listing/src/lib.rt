@@ -105,3 +105,53 @@ fn list_models<'a>(
         made, up_name, target_name, way, &rows, output, fences, out,
     )
 }
+
+// Lists a run that has succeeded. Its texts were accepted, and are read again for their models.
+fn list_run<'a>(
+    way: Way,
+    upstream: &'a [u8],
+    target: &'a [u8],
+    output: &'a [u8],
+    fences: usize,
+    out: &mut [u8],
+) -> Answer
+    requires { ⌜ Accepted (now upstream) × Accepted (now target) × Ran (now output) fences ⌝ }
+    ensures { λ r. ⌜ Answers (MachineListed way (reading (now (upstream .entry)) .model) (reading (now (target .entry)) .model) (now (output .entry))) (now (out .entry)) r (now (out .exit)) ⌝ }
+{
+    let up = models::reader::read(upstream);
+    let on = models::reader::read(target);
+    let asked = up.model;
+    let offered = on.model;
+    list_models(way, asked, offered, output, fences, out)
+}
+
+fn number_of(way: Way) -> u64
+    ensures { λ r. ⌜ r ≡ wayNumber way ⌝ }
+{
+    match way {
+        Way::Sparing => 0,
+        Way::Full => 1,
+    }
+}
+
+// Lists the parts of an input. The stream is run first, so that its refusals go before the machine's.
+fn list_parts<'a>(
+    way: Way,
+    upstream: &'a [u8],
+    target: &'a [u8],
+    stream: &'a [u8],
+    out: &mut [u8],
+) -> Answer
+    ensures { λ r. ⌜ Answers (PartsListed (record { upstream = now (upstream .entry); target = now (target .entry); way = way; stream = now (stream .entry) })) (now (out .entry)) r (now (out .exit)) ⌝ }
+{
+    let mut output = [0u8; 8192];
+    let answer = runs::run(number_of(way), upstream, target, stream, &mut output);
+    match answer {
+        Answer::Refused(why) => Answer::Refused(why),
+        Answer::Done {
+            written,
+            fences,
+            state: _,
+        } => list_run(way, upstream, target, &output[..written], fences, out),
+    }
+}
