@@ -4,3 +4,4 @@ pub mod Decimals
 pub mod Printing
 pub mod Made
 pub mod Direct
+pub mod Stages

@@ -4,7 +4,7 @@
 use Prim.Native.Nat.{ℕ, _+_, _≤_, _<_}
 use mathlib.Core.Path.{_≡_}
 use mathlib.Core.List.{List}
-use mathlib.Core.Option.{none, some}
+use mathlib.Core.Option.{Option, none, some}
 use lib.ListN.{length}
 use Rattle.answers.specs.declared.Refusal.{Refusal}
 use Rattle.answers.specs.declared.Answer.{Answer}
@@ -63,10 +63,14 @@ pub data PartsListed (p : Parts) : Given → Type 0 where
   runs : {output : List ℕ} {g : Given} → direct p ≡ ran output
       → MachineListed (p .way) (reading (p .upstream) .model) (reading (p .target) .model) output g → PartsListed p g
 
+-- the shape comes before all else, but for the length
+pub data ShapeListed : Option Parts → Given → Type 0 where
+  shapeless : ShapeListed none (refuse (Refusal.NotOfTheForm 0))
+  shaped : {p : Parts} {g : Given} → PartsListed p g → ShapeListed (some p) g
+
 pub data Listed (input : List ℕ) : Given → Type 0 where
   over : 32768 < length input → Listed input (refuse Refusal.OverLimit)
-  shapeless : length input ≤ 32768 → shape input ≡ none → Listed input (refuse (Refusal.NotOfTheForm 0))
-  shaped : {p : Parts} {g : Given} → length input ≤ 32768 → shape input ≡ some p → PartsListed p g → Listed input g
+  within : {g : Given} → length input ≤ 32768 → ShapeListed (shape input) g → Listed input g
 
 -- a call answers what it has to give, and the buffer is then as that says
 pub record Answers (Gives : Given → Type 0) (out : List ℕ) (r : Answer) (after : List ℕ) : Type 0 where
