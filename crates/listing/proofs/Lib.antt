@@ -5,3 +5,4 @@ pub mod Printing
 pub mod Made
 pub mod Direct
 pub mod Stages
+pub mod Unique
