@@ -6,3 +6,4 @@ pub mod Made
 pub mod Direct
 pub mod Stages
 pub mod Unique
+pub mod Fits
