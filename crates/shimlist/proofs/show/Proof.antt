@@ -1,0 +1,57 @@
+-- `show` meets its contract: what is written is within the buffer. Assumes nothing of its own.
+use Prim.Native.Nat.{ℕ, _≤_}
+use mathlib.Core.Path.{sym, subst}
+use lib.ListN.{replicate}
+use lib.Seq.{length-take-le}
+use Rattle.listing.proofs.Fits.{listing-within}
+use borrow.Author.Needs.{needs}
+use Rattle.shimlist.proofs.show.Statement.{statement}
+use Rattle.shimlist.proofs.show.Tie as tie
+
+slice-aggregate-list : tie.Need-slice-aggregate-list
+slice-aggregate-list c = search needs
+
+list-requires : tie.Need-list-requires
+list-requires c κs = search needs
+
+enum-known-answer : tie.Need-enum-known-answer
+enum-known-answer c = search needs
+
+array-share-prefix-out : tie.Need-array-share-prefix-out
+array-share-prefix-out c = let l = c .before .before .before .before .list in
+    subst (λ (n : ℕ). c .before .answer .given .0 .0 ≤ n) (sym (l .kept .1 .0)) (listing-within (replicate 73728 0) (l .ensures) (c .before .answer .given .1))
+
+slice-aggregate-write-all : tie.Need-slice-aggregate-write-all
+slice-aggregate-write-all c = let l = c .before .before .before .before .before .list in
+    sym (length-take-le _ (l .last .1 .0)
+    (subst (λ (n : ℕ). c .before .before .answer .given .0 .0 ≤ n) (sym (l .kept .1 .0)) (listing-within (replicate 73728 0) (l .ensures) (c .before .before .answer .given .1))))
+
+write-all-requires : tie.Need-write-all-requires
+write-all-requires c κs = search needs
+
+enum-known-answer-2 : tie.Need-enum-known-answer-2
+enum-known-answer-2 c = search needs
+
+show-refusal-requires : tie.Need-show-refusal-requires
+show-refusal-requires c κs = search needs
+
+returns : tie.Need-returns
+returns c = search needs
+
+returns-2 : tie.Need-returns-2
+returns-2 c = search needs
+
+pub show-spec : {M : Type 1} → statement M
+show-spec =
+    tie.close
+    (tie.spec
+    slice-aggregate-list
+    list-requires
+    enum-known-answer
+    array-share-prefix-out
+    slice-aggregate-write-all
+    write-all-requires
+    enum-known-answer-2
+    show-refusal-requires
+    returns
+    returns-2)
