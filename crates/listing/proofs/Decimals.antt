@@ -42,6 +42,7 @@ length-digits (suc k) n l = by (ltb n 10) refl (length-digits k (n / 10))
   where
     p : 10 ^ suc (suc k) ≡ 10 ^ suc k * 10
     p = pow-suc _ _
+
     by : (q : Bool) → ltb n 10 ≡ q → (n / 10 < 10 ^ suc k → length (decimal (n / 10)) ≤ suc k) → length (decimal n) ≤ suc (suc k)
     by true e rest = omega (arith, ap length (one-digit n (ltb-true n 10 e)))
     by false e rest =

@@ -52,7 +52,14 @@ fn write_listing<'a>(
 {
     let mut text = [0u8; 73728];
     let n = print::put_listing(
-        &mut text, upstream, target, way, machine, rows, output, fences,
+        &mut text,
+        upstream,
+        target,
+        way,
+        machine,
+        rows,
+        output,
+        fences,
     );
     answers::write_out(&text[..n], fences, 0, out)
 }
@@ -74,7 +81,14 @@ fn list_made<'a>(
 {
     match made {
         Outcome::Made(machine) => write_listing(
-            upstream, target, way, machine, rows, output, fences, out,
+            upstream,
+            target,
+            way,
+            machine,
+            rows,
+            output,
+            fences,
+            out,
         ),
         Outcome::Situations => Answer::Refused(Refusal::TooManySituations),
         Outcome::States => Answer::Refused(Refusal::TooManyStates),
@@ -104,9 +118,7 @@ fn list_models<'a>(
     let offered = target.ppo;
     let mut rows = [0u16; 5100];
     let made = machine::generate(way, asked, &ups[..n], offered, &targets[..k], &mut rows);
-    list_made(
-        made, up_name, target_name, way, &rows, output, fences, out,
-    )
+    list_made(made, up_name, target_name, way, &rows, output, fences, out)
 }
 
 // Lists a run that has succeeded. Its texts were accepted, and are read again for their models.

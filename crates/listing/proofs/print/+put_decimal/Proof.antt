@@ -82,9 +82,9 @@ put-decimal-put-decimal-requires : (t : ℕ) → put-decimal-lts.Need-put-decima
   put-decimal.Post,
 ) (put-decimal-at t) put-decimal.Post
 put-decimal-put-decimal-requires t c κs = let n = c .before .before .before .args .number in (
-      omega (arith, c .before .before .before .pre .0),
-      omega (arith, c .before .before .before .pre .1, ap length (more-digits n (c .before .if1 .left)), length-append (decimal (n / 10)) (digit (n % 10))),
-    )
+  omega (arith, c .before .before .before .pre .0),
+  omega (arith, c .before .before .before .pre .1, ap length (more-digits n (c .before .if1 .left)), length-append (decimal (n / 10)) (digit (n % 10))),
+)
 
 put-decimal-cast-t17 : (t : ℕ) → put-decimal-lts.Need-cast-t17 (
   put-reads.Asked,

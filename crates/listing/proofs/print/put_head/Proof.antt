@@ -39,8 +39,21 @@ slice-aggregate-put-number-line c = search needs
 
 put-number-line-requires : tie.Need-put-number-line-requires
 put-number-line-requires c κs = let o = c .before .before .before .before .before .before .before .before .before .before .before .before .before .before .before .before .before .before .before .before .before .before .before .before .before in
-    omega (arith, o .pre .0, length-digits 2 (o .args .states) (o .pre .1), c .before .before .before .before .before .before .before .before .before .before .before .before .before .before .before .before .before .before .before .before .before .before .put-name .ensures .1, c .before .before .before .before .before .before .before .before .before .before .before .before .before .before .before .before .before .before .before .before .before .before .put-name .kept .0, c .before .before .before .before .before .before .before .before .before .before .before .before .before .before .before .before .before .put .ensures .long, c .before .before .before .before .before .before .before .before .before .before .before .before .before .before .before .before .before .put .kept .0,
-    c .before .before .before .before .before .before .before .before .before .before .before .before .before .put-name2 .ensures .1, c .before .before .before .before .before .before .before .before .before .before .before .before .before .put-name2 .kept .0, c .before .before .before .before .before .before .before .before .put2 .ensures .long, c .before .before .before .before .before .before .before .before .put2 .kept .0, c .before .before .before .before .put-way .ensures .1, c .before .before .before .before .put-way .kept .0)
+    omega (
+      arith,
+      o .pre .0,
+      length-digits 2 (o .args .states) (o .pre .1),
+      c .before .before .before .before .before .before .before .before .before .before .before .before .before .before .before .before .before .before .before .before .before .before .put-name .ensures .1,
+      c .before .before .before .before .before .before .before .before .before .before .before .before .before .before .before .before .before .before .before .before .before .before .put-name .kept .0,
+      c .before .before .before .before .before .before .before .before .before .before .before .before .before .before .before .before .before .put .ensures .long,
+      c .before .before .before .before .before .before .before .before .before .before .before .before .before .before .before .before .before .put .kept .0,
+      c .before .before .before .before .before .before .before .before .before .before .before .before .before .put-name2 .ensures .1,
+      c .before .before .before .before .before .before .before .before .before .before .before .before .before .put-name2 .kept .0,
+      c .before .before .before .before .before .before .before .before .put2 .ensures .long,
+      c .before .before .before .before .before .before .before .before .put2 .kept .0,
+      c .before .before .before .before .put-way .ensures .1,
+      c .before .before .before .before .put-way .kept .0,
+    )
 
 same-length : tie.Need-same-length
 same-length c = search needs
@@ -49,9 +62,18 @@ returns : tie.Need-returns
 returns c = let o = c .before .before .before .before .before .before .before .before .before .before .before .before .before .before .before .before .before .before .before .before .before .before .before .before .before .before .before .before in
     let l = c .before .before .put-number-line .ensures in (
       put-is (as-names (unfilled (o .args .upstream .bytes)) (unfilled (o .args .target .bytes)) (wayWord (o .args .way) ++ bytes "\n") (numberLine (bytes "states ") (o .args .states)))
-      (put-then (c .before .before .before .before .before .before .before .before .before .before .before .before .before .before .before .before .before .before .before .before .before .before .before .before .before .put-name .ensures .0) (put-then (c .before .before .before .before .before .before .before .before .before .before .before .before .before .before .before .before .before .before .before .before .put .ensures) (put-then (c .before .before .before .before .before .before .before .before .before .before .before .before .before .before .before .before .put-name2 .ensures .0) (put-then (c .before .before .before .before .before .before .before .before .before .before .before .put2 .ensures) (put-then (c .before .before .before .before .before .before .before .put-way .ensures .0) l))))),
-      omega (arith, length-digits 2 (o .args .states) (o .pre .1), c .before .before .before .before .before .before .before .before .before .before .before .before .before .before .before .before .before .before .before .before .before .before .before .before .before .put-name .ensures .1, c .before .before .before .before .before .before .before .before .before .before .before .before .before .before .before .before .before .before .before .before .put .ensures .long,
-      c .before .before .before .before .before .before .before .before .before .before .before .before .before .before .before .before .put-name2 .ensures .1, c .before .before .before .before .before .before .before .before .before .before .before .put2 .ensures .long, c .before .before .before .before .before .before .before .put-way .ensures .1, l .long, length-append (decimal (o .args .states)) (10 ∷ [])),
+          (put-then (c .before .before .before .before .before .before .before .before .before .before .before .before .before .before .before .before .before .before .before .before .before .before .before .before .before .put-name .ensures .0) (put-then (c .before .before .before .before .before .before .before .before .before .before .before .before .before .before .before .before .before .before .before .before .put .ensures) (put-then (c .before .before .before .before .before .before .before .before .before .before .before .before .before .before .before .before .put-name2 .ensures .0) (put-then (c .before .before .before .before .before .before .before .before .before .before .before .put2 .ensures) (put-then (c .before .before .before .before .before .before .before .put-way .ensures .0) l))))),
+      omega (
+        arith,
+        length-digits 2 (o .args .states) (o .pre .1),
+        c .before .before .before .before .before .before .before .before .before .before .before .before .before .before .before .before .before .before .before .before .before .before .before .before .before .put-name .ensures .1,
+        c .before .before .before .before .before .before .before .before .before .before .before .before .before .before .before .before .before .before .before .before .put .ensures .long,
+        c .before .before .before .before .before .before .before .before .before .before .before .before .before .before .before .before .put-name2 .ensures .1,
+        c .before .before .before .before .before .before .before .before .before .before .before .put2 .ensures .long,
+        c .before .before .before .before .before .before .before .put-way .ensures .1,
+        l .long,
+        length-append (decimal (o .args .states)) (10 ∷ []),
+      ),
     )
 
 pub put-head-spec : {M : Type 1} → statement M

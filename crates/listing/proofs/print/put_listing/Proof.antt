@@ -28,14 +28,14 @@ same-length : tie.Need-same-length
 same-length c = search needs
 
 returns : tie.Need-returns
-returns c = let a = c .before .before .before .before .before .before .before .before .before .before .before .before .before .before .before .before  .args in
+returns c = let a = c .before .before .before .before .before .before .before .before .before .before .before .before .before .before .before .before .args in
     let p = c .before .before .before .before .before .before .before .before .before .before .put-head .ensures in
     let q = c .before .before .before .before .before .before .put-rows .ensures in
     let r = c .before .before .put-run .ensures in (
       put-is
-      (append-assoc (namesLine (unfilled (a .upstream .bytes)) (unfilled (a .target .bytes)) (a .way)) (numberLine (bytes "states ") (a .machine .states))
-      (rowLines (rowOf (now (a .rows))) (4 + a .machine .ups) (a .machine .states) ++ (outLine (now (a .output)) ++ numberLine (bytes "fences ") (a .fences))))
-      (put-then (p .0) (put-then (q .0) (r .0))),
+          (append-assoc (namesLine (unfilled (a .upstream .bytes)) (unfilled (a .target .bytes)) (a .way)) (numberLine (bytes "states ") (a .machine .states))
+          (rowLines (rowOf (now (a .rows))) (4 + a .machine .ups) (a .machine .states) ++ (outLine (now (a .output)) ++ numberLine (bytes "fences ") (a .fences))))
+          (put-then (p .0) (put-then (q .0) (r .0))),
       omega (arith, p .1, q .1, r .1),
     )
 

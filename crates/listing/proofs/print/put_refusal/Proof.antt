@@ -32,8 +32,16 @@ place-requires : tie.Need-place-requires
 place-requires c κs = search needs
 
 put-number-line-requires : tie.Need-put-number-line-requires
-put-number-line-requires c κs = omega (arith, c .before .before .before .before .before .before .before .before .before .before .before .before .before .before .pre, c .before .before .before .before .before .before .before .before .before .before .put .ensures .long, c .before .before .before .before .before .before .before .before .before .before .put .kept .0, c .before .before .before .before .before .put-decimal .ensures .long, c .before .before .before .before .before .put-decimal .kept .0,
-    length-digits 19 (c .before .before .before .before .before .before .number .result) (omega (arith, c .before .before .before .before .before .before .number .ok)), length-digits 19 (c .place .result) (omega (arith, c .place .ok)))
+put-number-line-requires c κs = omega (
+  arith,
+  c .before .before .before .before .before .before .before .before .before .before .before .before .before .before .pre,
+  c .before .before .before .before .before .before .before .before .before .before .put .ensures .long,
+  c .before .before .before .before .before .before .before .before .before .before .put .kept .0,
+  c .before .before .before .before .before .put-decimal .ensures .long,
+  c .before .before .before .before .before .put-decimal .kept .0,
+  length-digits 19 (c .before .before .before .before .before .before .number .result) (omega (arith, c .before .before .before .before .before .before .number .ok)),
+  length-digits 19 (c .place .result) (omega (arith, c .place .ok)),
+)
 
 same-length : tie.Need-same-length
 same-length c = search needs
@@ -44,9 +52,16 @@ returns c =
     let k = c .before .before .before .place in
     let l = c .before .before .put-number-line .ensures in (
       put-is (ap₂ (λ (n k : ℕ). bytes "refused " ++ (decimal n ++ numberLine (bytes " at ") k)) (n .ensures) (k .ensures))
-      (put-then (c .before .before .before .before .before .before .before .before .before .before .before .before .before .put .ensures) (put-then (c .before .before .before .before .before .before .before .before .put-decimal .ensures) l)),
-      omega (arith, c .before .before .before .before .before .before .before .before .before .before .before .before .before .put .ensures .long, c .before .before .before .before .before .before .before .before .put-decimal .ensures .long, l .long, length-digits 19 (n .result) (omega (arith, n .ok)), length-digits 19 (k .result) (omega (arith, k .ok)),
-      length-append (decimal (k .result)) (10 ∷ [])),
+          (put-then (c .before .before .before .before .before .before .before .before .before .before .before .before .before .put .ensures) (put-then (c .before .before .before .before .before .before .before .before .put-decimal .ensures) l)),
+      omega (
+        arith,
+        c .before .before .before .before .before .before .before .before .before .before .before .before .before .put .ensures .long,
+        c .before .before .before .before .before .before .before .before .put-decimal .ensures .long,
+        l .long,
+        length-digits 19 (n .result) (omega (arith, n .ok)),
+        length-digits 19 (k .result) (omega (arith, k .ok)),
+        length-append (decimal (k .result)) (10 ∷ []),
+      ),
     )
 
 pub put-refusal-spec : {M : Type 1} → statement M

@@ -33,8 +33,18 @@ slice-aggregate-put-number-line c = search needs
 
 put-number-line-requires : tie.Need-put-number-line-requires
 put-number-line-requires c κs = let o = c .before .before .before .before .before .before .before .before .before .before .before .before .before .before .before .before .before .before in
-    omega (arith, o .pre .0, o .pre .1 .0, length-digits 3 (o .args .fences) (o .pre .1 .1), c .before .before .before .before .before .before .before .before .before .before .before .before .before .put .ensures .long, c .before .before .before .before .before .before .before .before .before .before .before .before .before .put .kept .0, c .before .before .before .before .before .before .before .before .before .put2 .ensures .long, c .before .before .before .before .before .before .before .before .before .put2 .kept .0,
-    c .before .before .before .before .put3 .ensures .long, c .before .before .before .before .put3 .kept .0)
+    omega (
+      arith,
+      o .pre .0,
+      o .pre .1 .0,
+      length-digits 3 (o .args .fences) (o .pre .1 .1),
+      c .before .before .before .before .before .before .before .before .before .before .before .before .before .put .ensures .long,
+      c .before .before .before .before .before .before .before .before .before .before .before .before .before .put .kept .0,
+      c .before .before .before .before .before .before .before .before .before .put2 .ensures .long,
+      c .before .before .before .before .before .before .before .before .before .put2 .kept .0,
+      c .before .before .before .before .put3 .ensures .long,
+      c .before .before .before .before .put3 .kept .0,
+    )
 
 same-length : tie.Need-same-length
 same-length c = search needs
@@ -44,9 +54,17 @@ returns c =
     let o = c .before .before .before .before .before .before .before .before .before .before .before .before .before .before .before .before .before .before .before .before .before in
     let l = c .before .before .put-number-line .ensures in (
       put-is (as-out (bytes "out ") (now (o .args .output)) (bytes "\n") (numberLine (bytes "fences ") (o .args .fences)))
-      (put-then (c .before .before .before .before .before .before .before .before .before .before .before .before .before .before .before .before .put .ensures) (put-then (c .before .before .before .before .before .before .before .before .before .before .before .before .put2 .ensures) (put-then (c .before .before .before .before .before .before .before .put3 .ensures) l))),
-      omega (arith, o .pre .1 .0, length-digits 3 (o .args .fences) (o .pre .1 .1), c .before .before .before .before .before .before .before .before .before .before .before .before .before .before .before .before .put .ensures .long, c .before .before .before .before .before .before .before .before .before .before .before .before .put2 .ensures .long, c .before .before .before .before .before .before .before .put3 .ensures .long, l .long,
-      length-append (decimal (o .args .fences)) (10 ∷ [])),
+          (put-then (c .before .before .before .before .before .before .before .before .before .before .before .before .before .before .before .before .put .ensures) (put-then (c .before .before .before .before .before .before .before .before .before .before .before .before .put2 .ensures) (put-then (c .before .before .before .before .before .before .before .put3 .ensures) l))),
+      omega (
+        arith,
+        o .pre .1 .0,
+        length-digits 3 (o .args .fences) (o .pre .1 .1),
+        c .before .before .before .before .before .before .before .before .before .before .before .before .before .before .before .before .put .ensures .long,
+        c .before .before .before .before .before .before .before .before .before .before .before .before .put2 .ensures .long,
+        c .before .before .before .before .before .before .before .put3 .ensures .long,
+        l .long,
+        length-append (decimal (o .args .fences)) (10 ∷ []),
+      ),
     )
 
 pub put-run-spec : {M : Type 1} → statement M

@@ -32,8 +32,16 @@ next-of-requires : tie.Need-next-of-requires
 next-of-requires c κs = search needs
 
 put-number-line-requires : tie.Need-put-number-line-requires
-put-number-line-requires c κs = omega (arith, c .before .before .before .before .before .before .before .before .before .before .before .before .before .before .before .pre .0, length-digits 2 (c .before .before .before .before .before .before .before .before .before .before .before .before .before .before .before .args .state) (c .before .before .before .before .before .before .before .before .before .before .before .before .before .before .before .pre .1), c .before .before .before .before .before .before .before .before .before .before .before .before .put-decimal .ensures .long, c .before .before .before .before .before .before .before .before .before .before .before .before .put-decimal .kept .0,
-    c .before .before .before .before .before .put .ensures .long, c .before .before .before .before .before .put .kept .0, length-digits 2 (c .next-of .result) (omega (arith, c .next-of .ensures .1)))
+put-number-line-requires c κs = omega (
+  arith,
+  c .before .before .before .before .before .before .before .before .before .before .before .before .before .before .before .pre .0,
+  length-digits 2 (c .before .before .before .before .before .before .before .before .before .before .before .before .before .before .before .args .state) (c .before .before .before .before .before .before .before .before .before .before .before .before .before .before .before .pre .1),
+  c .before .before .before .before .before .before .before .before .before .before .before .before .put-decimal .ensures .long,
+  c .before .before .before .before .before .before .before .before .before .before .before .before .put-decimal .kept .0,
+  c .before .before .before .before .before .put .ensures .long,
+  c .before .before .before .before .before .put .kept .0,
+  length-digits 2 (c .next-of .result) (omega (arith, c .next-of .ensures .1)),
+)
 
 same-length : tie.Need-same-length
 same-length c = search needs
@@ -42,9 +50,16 @@ returns : tie.Need-returns
 returns c = let a = c .before .before .before .before .before .before .before .before .before .before .before .before .before .before .before .before .before .before .args in
     let n = c .before .before .before .next-of in (
       put-is (step-text (a .state) (a .letter) (a .word) (c .before .before .before .before .before .before .before .before .before .before .before .before .letter-byte .result) (c .before .before .before .before .before .before .before .before .before .before .before .mark-of .result) (n .result) (c .before .before .before .before .before .before .before .before .before .before .before .before .letter-byte .ensures) (c .before .before .before .before .before .before .before .before .before .before .before .mark-of .ensures) (n .ensures .0))
-      (put-then (c .before .before .before .before .before .before .before .before .before .before .before .before .before .before .before .put-decimal .ensures) (put-then (c .before .before .before .before .before .before .before .before .put .ensures) (c .before .before .put-number-line .ensures))),
-      omega (arith, length-digits 2 (a .state) (c .before .before .before .before .before .before .before .before .before .before .before .before .before .before .before .before .before .before .pre .1), c .before .before .before .before .before .before .before .before .before .before .before .before .before .before .before .put-decimal .ensures .long, c .before .before .before .before .before .before .before .before .put .ensures .long, c .before .before .put-number-line .ensures .long,
-      length-digits 2 (n .result) (omega (arith, n .ensures .1)), length-append (decimal (n .result)) (10 ∷ [])),
+          (put-then (c .before .before .before .before .before .before .before .before .before .before .before .before .before .before .before .put-decimal .ensures) (put-then (c .before .before .before .before .before .before .before .before .put .ensures) (c .before .before .put-number-line .ensures))),
+      omega (
+        arith,
+        length-digits 2 (a .state) (c .before .before .before .before .before .before .before .before .before .before .before .before .before .before .before .before .before .before .pre .1),
+        c .before .before .before .before .before .before .before .before .before .before .before .before .before .before .before .put-decimal .ensures .long,
+        c .before .before .before .before .before .before .before .before .put .ensures .long,
+        c .before .before .put-number-line .ensures .long,
+        length-digits 2 (n .result) (omega (arith, n .ensures .1)),
+        length-append (decimal (n .result)) (10 ∷ []),
+      ),
     )
 
 pub put-step-spec : {M : Type 1} → statement M

@@ -5,8 +5,8 @@ use lib.Seq.{length-take-le}
 use Rattle.listing.specs.Printed.{refusalLine}
 use Rattle.listing.proofs.Fits.{writing-within}
 use borrow.Author.Needs.{needs}
-use Rattle.shimlist.proofs.show_refusal.Statement.{statement}
-use Rattle.shimlist.proofs.show_refusal.Tie as tie
+use Rattle.show.proofs.show_refusal.Statement.{statement}
+use Rattle.show.proofs.show_refusal.Tie as tie
 
 slice-aggregate-refusal-line : tie.Need-slice-aggregate-refusal-line
 slice-aggregate-refusal-line c = search needs

@@ -1,12 +1,26 @@
 -- `show` meets its contract: what is written is within the buffer. Assumes nothing of its own.
 use Prim.Native.Nat.{ℕ, _≤_}
-use mathlib.Core.Path.{sym, subst}
-use lib.ListN.{replicate}
+use mathlib.Core.Path.{_≡_, sym, ap, subst, _∙_}
+use mathlib.Core.List.{List}
+use denote.Ref.{now}
+use lib.ListN.{replicate, length-replicate}
 use lib.Seq.{length-take-le}
+use Rattle.answers.specs.declared.Answer.{Answer}
+use Rattle.listing.specs.Listed.{answerOf, Listed, Answers}
 use Rattle.listing.proofs.Fits.{listing-within}
+use Rattle.show.specs.Shown.{Shown}
 use borrow.Author.Needs.{needs}
-use Rattle.shimlist.proofs.show.Statement.{statement}
-use Rattle.shimlist.proofs.show.Tie as tie
+use Rattle.show.proofs.show.Statement.{statement}
+use Rattle.show.proofs.show.Tie as tie
+
+-- the answer of the listing is what was shown
+shown : (input : List ℕ) {r q : Answer} {after : List ℕ} → Answers (Listed input) (replicate 73728 0) r after → r ≡ q → Shown input q
+shown input a e =
+    record {
+      given = a .given;
+      listed = a .gives;
+      answer = sym e ∙ a .answer ∙ ap (answerOf (a .given)) (length-replicate {A = ℕ} 73728 0);
+    }
 
 slice-aggregate-list : tie.Need-slice-aggregate-list
 slice-aggregate-list c = search needs
@@ -36,10 +50,10 @@ show-refusal-requires : tie.Need-show-refusal-requires
 show-refusal-requires c κs = search needs
 
 returns : tie.Need-returns
-returns c = search needs
+returns c = shown (now (c .before .before .before .before .before .before .before .before .before .args .input)) (c .before .before .before .before .before .before .list .ensures) (c .before .before .before .answer .given .1)
 
 returns-2 : tie.Need-returns-2
-returns-2 c = search needs
+returns-2 c = shown (now (c .before .before .before .before .before .before .before .before .args .input)) (c .before .before .before .before .before .list .ensures) (c .before .before .answer2 .given .1)
 
 pub show-spec : {M : Type 1} → statement M
 show-spec =
