@@ -1,0 +1,32 @@
+-- What a call says that it has written is within its buffer: a program's proof cites this. Assumes nothing.
+use Prim.Native.Nat.{ℕ, _≤_}
+use mathlib.Core.Path.{_≡_, refl, _∙_}
+use mathlib.Core.Bool.{Bool, true, false, cond}
+use mathlib.Core.List.{List}
+use native.Mathlib.Omega.{arith}
+use borrow.Author.Tests.{leb-true}
+use lib.Dec.{leb}
+use lib.ListN.{length}
+use Rattle.answers.specs.declared.Refusal.{Refusal}
+use Rattle.answers.specs.declared.Answer.{Answer}
+use Rattle.answers.specs.Written.{writing}
+use Rattle.rule.proofs.Choices.{differ}
+use Rattle.listing.specs.Listed.{Given, put, refuse, answerOf, Answers}
+
+pub writing-within : (text : List ℕ) (f room : ℕ) {w g s : ℕ} → Answer.Done w g s ≡ writing text f 0 room → w ≤ room
+unfolding writing
+writing-within text f room {w} {g} {s} e = by (leb (length text) room) refl e
+  where
+    by : (q : Bool) → leb (length text) room ≡ q
+        → Answer.Done w g s ≡ cond q (Answer.Done (length text) f 0) (Answer.Refused Refusal.BufferTooSmall) → w ≤ room
+    by true h e =
+        let n : w ≡ length text = cc in
+        omega (arith, leb-true (length text) room h)
+    by false h e = differ (cc)
+
+pub listing-within : {P : Given → Type 0} (out : List ℕ) {r : Answer} {after : List ℕ} {w g s : ℕ} → Answers P out r after → r ≡ Answer.Done w g s → w ≤ length out
+listing-within out {w = w} {g = g} {s = s} a e = by (a .given) ((cc))
+  where
+    by : (x : Given) → Answer.Done w g s ≡ answerOf x (length out) → w ≤ length out
+    by (put text f) e = writing-within text f (length out) e
+    by (refuse why) e = differ (cc)

@@ -1,0 +1,65 @@
+-- `list` meets its contract. Assumes nothing.
+use mathlib.Core.Path.{sym, ap, subst}
+use denote.Ref.{now}
+use lib.Seq.{length-take-le}
+use Rattle.listing.specs.Shape.{withUpstream}
+use Rattle.listing.specs.Finding.{TextEnd}
+use Rattle.listing.proofs.Stages.{shape-as, shape-none, upstream-found, input-over, input-within}
+use borrow.Author.Needs.{needs}
+use Rattle.listing.proofs.list.Statement.{statement}
+use Rattle.listing.proofs.list.Tie as tie
+
+returns : tie.Need-returns
+returns c = input-over (now (c .before .before .before .args .input)) (now (c .before .before .before .args .out)) (c .if1 .taken)
+
+text-end-requires : tie.Need-text-end-requires
+text-end-requires c κs = search needs
+
+enum-told : tie.Need-enum-told
+enum-told c = search needs
+
+enum-known-found : tie.Need-enum-known-found
+enum-known-found c = search needs
+
+slice-aggregate-list-rest : tie.Need-slice-aggregate-list-rest
+slice-aggregate-list-rest c = let t = now (c .before .before .before .before .before .before .before .before .args .input) in sym (length-take-le _ t (subst (TextEnd t) (c .before .before .found .given .1) (c .before .before .before .before .text-end .ensures) .inside))
+
+sub-list-rest : tie.Need-sub-list-rest
+sub-list-rest c = subst (TextEnd (now (c .before .before .before .before .before .before .before .before .args .input))) (c .before .before .found .given .1) (c .before .before .before .before .text-end .ensures) .inside
+
+part-list-rest-start : tie.Need-part-list-rest-start
+part-list-rest-start c = subst (TextEnd (now (c .before .before .before .before .before .before .before .before .args .input))) (c .before .before .found .given .1) (c .before .before .before .before .text-end .ensures) .inside
+
+part-list-rest-end : tie.Need-part-list-rest-end
+part-list-rest-end c = search needs
+
+list-rest-requires : tie.Need-list-rest-requires
+list-rest-requires c κs = search needs
+
+returns-2 : tie.Need-returns-2
+returns-2 c = let a = c .before .before .before .before .before .before .args in
+    input-within (c .before .before .before .if1 .left) (shape-none (now (a .out)) (ap withUpstream (subst (TextEnd (now (a .input))) (c .enum-told .given .1) (c .before .before .text-end .ensures))))
+
+same-length : tie.Need-same-length
+same-length c = search needs
+
+returns-3 : tie.Need-returns-3
+returns-3 c = let a = c .before .before .before .before .before .before .before .before .before .before .before .before .before .args in
+    input-within (c .before .before .before .before .before .before .before .before .before .before .if1 .left) (shape-as (upstream-found (now (a .input)) (subst (TextEnd (now (a .input))) (c .before .before .before .before .before .before .before .found .given .1) (c .before .before .before .before .before .before .before .before .before .text-end .ensures))) (c .before .before .list-rest .ensures))
+
+pub list-spec : {M : Type 1} → statement M
+list-spec =
+    tie.close
+    (tie.spec
+    returns
+    text-end-requires
+    enum-told
+    enum-known-found
+    slice-aggregate-list-rest
+    sub-list-rest
+    part-list-rest-start
+    part-list-rest-end
+    list-rest-requires
+    returns-2
+    same-length
+    returns-3)

@@ -1,0 +1,61 @@
+-- `list_rest` meets its contract. Assumes nothing.
+use mathlib.Core.Path.{sym, ap, subst}
+use denote.Ref.{now}
+use lib.Seq.{length-take-le}
+use Rattle.listing.specs.Shape.{withTarget}
+use Rattle.listing.specs.Finding.{TextEnd}
+use Rattle.listing.proofs.Stages.{shape-as, shape-none, target-found}
+use borrow.Author.Needs.{needs}
+use Rattle.listing.proofs.list_rest.Statement.{statement}
+use Rattle.listing.proofs.list_rest.Tie as tie
+
+text-end-requires : tie.Need-text-end-requires
+text-end-requires c κs = search needs
+
+enum-told : tie.Need-enum-told
+enum-told c = search needs
+
+enum-known-found : tie.Need-enum-known-found
+enum-known-found c = search needs
+
+slice-aggregate-list-tail : tie.Need-slice-aggregate-list-tail
+slice-aggregate-list-tail c = let t = now (c .before .before .before .before .before .before .before .before .args .rest) in sym (length-take-le _ t (subst (TextEnd t) (c .before .before .found .given .1) (c .before .before .before .before .text-end .ensures) .inside))
+
+sub-list-tail : tie.Need-sub-list-tail
+sub-list-tail c = subst (TextEnd (now (c .before .before .before .before .before .before .before .before .args .rest))) (c .before .before .found .given .1) (c .before .before .before .before .text-end .ensures) .inside
+
+part-list-tail-start : tie.Need-part-list-tail-start
+part-list-tail-start c = subst (TextEnd (now (c .before .before .before .before .before .before .before .before .args .rest))) (c .before .before .found .given .1) (c .before .before .before .before .text-end .ensures) .inside
+
+part-list-tail-end : tie.Need-part-list-tail-end
+part-list-tail-end c = search needs
+
+list-tail-requires : tie.Need-list-tail-requires
+list-tail-requires c κs = search needs
+
+returns : tie.Need-returns
+returns c = let a = c .before .before .before .before .before .before .args in
+    shape-none (now (a .out)) (ap (withTarget (now (a .upstream))) (subst (TextEnd (now (a .rest))) (c .enum-told .given .1) (c .before .before .text-end .ensures)))
+
+same-length : tie.Need-same-length
+same-length c = search needs
+
+returns-2 : tie.Need-returns-2
+returns-2 c = let a = c .before .before .before .before .before .before .before .before .before .before .before .before .before .args in
+    shape-as (target-found (now (a .upstream)) (now (a .rest)) (subst (TextEnd (now (a .rest))) (c .before .before .before .before .before .before .before .found .given .1) (c .before .before .before .before .before .before .before .before .before .text-end .ensures))) (c .before .before .list-tail .ensures)
+
+pub list-rest-spec : {M : Type 1} → statement M
+list-rest-spec =
+    tie.close
+    (tie.spec
+    text-end-requires
+    enum-told
+    enum-known-found
+    slice-aggregate-list-tail
+    sub-list-tail
+    part-list-tail-start
+    part-list-tail-end
+    list-tail-requires
+    returns
+    same-length
+    returns-2)

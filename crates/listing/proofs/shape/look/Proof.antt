@@ -1,0 +1,55 @@
+-- `look` meets its contract. Assumes nothing.
+use mathlib.Core.Path.{_≡_, sym, subst, _∙_}
+use denote.Ref.{now}
+use lib.Seq.{length-take-le}
+use Rattle.listing.specs.declared.shape.Found.{Found}
+use Rattle.listing.specs.Finding.{LineEnd}
+use Rattle.listing.proofs.Lines.{line-last, line-more}
+use borrow.Author.Needs.{needs}
+use Rattle.listing.proofs.shape.look.Statement.{statement}
+use Rattle.listing.proofs.shape.look.Tie as tie
+
+line-end-requires : tie.Need-line-end-requires
+line-end-requires c κs = search needs
+
+enum-told : tie.Need-enum-told
+enum-told c = search needs
+
+enum-known-line : tie.Need-enum-known-line
+enum-known-line c = search needs
+
+slice-aggregate-same : tie.Need-slice-aggregate-same
+slice-aggregate-same c = let o = c .before .before .before .before .before .before in
+    sym (length-take-le _ (now (o .args .text)) (subst (LineEnd (now (o .args .text))) (c .before .before .line .given .1) (c .before .before .before .before .line-end .ensures) .inside))
+
+slice-aggregate-same-2 : tie.Need-slice-aggregate-same-2
+slice-aggregate-same-2 c = search needs
+
+same-requires : tie.Need-same-requires
+same-requires c κs = search needs
+
+returns : tie.Need-returns
+returns c = let o = c .before .before .before .before in
+    subst (LineEnd (now (o .args .text))) (c .enum-told .given .1) (c .before .before .line-end .ensures) .no-text
+
+returns-2 : tie.Need-returns-2
+returns-2 c = let t = now (c .before .before .before .before .before .before .before .before .before .args .text) in
+    line-last (subst (LineEnd t) (c .before .before .before .before .before .line .given .1) (c .before .before .before .before .before .before .before .line-end .ensures)) (sym (c .before .same .ensures) ∙ c .if1 .taken)
+
+returns-3 : tie.Need-returns-3
+returns-3 c = let t = now (c .before .before .before .before .before .before .before .before .before .args .text) in
+    line-more (subst (LineEnd t) (c .before .before .before .before .before .line .given .1) (c .before .before .before .before .before .before .before .line-end .ensures)) (sym (c .before .same .ensures) ∙ c .if1 .left)
+
+pub look-spec : {M : Type 1} → statement M
+look-spec =
+    tie.close
+    (tie.spec
+    line-end-requires
+    enum-told
+    enum-known-line
+    slice-aggregate-same
+    slice-aggregate-same-2
+    same-requires
+    returns
+    returns-2
+    returns-3)

@@ -1,0 +1,60 @@
+-- What is printed. Document 01: "the names and way, the states, one line per state and operation (state, operation, fence byte or `-`, or `!` if
+-- refused, next state), the direct run's output (nothing after `out ` if empty), its fences." "A `!` line ends in 0." "any refusal prints only
+-- `refused N at K`". Operations are those of the machine's alphabet, l, L, s, S, then the upstream's fences.
+use Prim.Native.Nat.{ℕ, zero, suc}
+use mathlib.Core.List.{List, [], _∷_, _++_}
+use lib.Dec.{eqb}
+use Rattle.tables.specs.Table.{choose}
+use Rattle.answers.specs.declared.Refusal.{Refusal}
+use Rattle.answers.specs.Answer.{numberOf, placeOf}
+use Rattle.rule.specs.declared.way.Way.{Way}
+use Rattle.rule.specs.Operation.{fenceByte, written}
+use Rattle.models.specs.Bytes.{bytes}
+use Rattle.mealy.specs.Runs.{Answer, refused, taken}
+use Rattle.machine.specs.Shim.{operationOf}
+use Rattle.listing.specs.Decimal.{decimal}
+
+abbrev pub wayWord : Way → List ℕ
+wayWord Way.Full = bytes "full"
+wayWord Way.Sparing = bytes "sparing"
+
+abbrev pub namesLine : List ℕ → List ℕ → Way → List ℕ
+namesLine upstream target way = upstream ++ (bytes " " ++ (target ++ (bytes " " ++ (wayWord way ++ bytes "\n"))))
+
+-- a word and a number
+abbrev pub numberLine : List ℕ → ℕ → List ℕ
+numberLine word n = word ++ (decimal n ++ bytes "\n")
+
+-- the fence byte, `-` for none (255), or `!`; and the next state
+abbrev pub fenceMark : Answer ℕ ℕ → ℕ
+fenceMark refused = 33
+fenceMark (taken fence next) = choose (eqb fence 255) 45 (fenceByte fence)
+
+abbrev pub nextState : Answer ℕ ℕ → ℕ
+nextState refused = 0
+nextState (taken fence next) = next
+
+-- the line of a state and a letter of the alphabet
+abbrev pub stepLine : ℕ → ℕ → Answer ℕ ℕ → List ℕ
+stepLine state letter answer =
+    decimal state ++ ((32 ∷ written (operationOf letter) ∷ 32 ∷ fenceMark answer ∷ 32 ∷ []) ++ (decimal (nextState answer) ++ bytes "\n"))
+
+-- the lines of a state, for the first letters; and of the first states
+unfoldable pub stateLines : ℕ → (ℕ → Answer ℕ ℕ) → ℕ → List ℕ
+stateLines state row zero = []
+stateLines state row (suc letter) = stateLines state row letter ++ stepLine state letter (row letter)
+
+unfoldable pub rowLines : (ℕ → ℕ → Answer ℕ ℕ) → ℕ → ℕ → List ℕ
+rowLines row letters zero = []
+rowLines row letters (suc state) = rowLines row letters state ++ stateLines state (row state) letters
+
+abbrev pub outLine : List ℕ → List ℕ
+outLine output = bytes "out " ++ (output ++ bytes "\n")
+
+-- k states of so many letters, their answers, the run's output and its fences
+abbrev pub listing : List ℕ → List ℕ → Way → ℕ → ℕ → (ℕ → ℕ → Answer ℕ ℕ) → List ℕ → ℕ → List ℕ
+listing upstream target way k letters row output fences =
+    namesLine upstream target way ++ (numberLine (bytes "states ") k ++ (rowLines row letters k ++ (outLine output ++ numberLine (bytes "fences ") fences)))
+
+abbrev pub refusalLine : Refusal → List ℕ
+refusalLine why = bytes "refused " ++ (decimal (numberOf why) ++ numberLine (bytes " at ") (placeOf why))
