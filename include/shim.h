@@ -66,9 +66,10 @@ extern "C" {
 
 /*
  * Stack that a thread must have left when it calls shim_generate or shim_list. Every other call does with
- * SHIM_STACK_OTHERS. The proofs speak of a machine with endless stack, so these two numbers are measured, not proved.
+ * SHIM_STACK_OTHERS. The proofs speak of a machine with endless stack, so these two numbers are
+ * not proved: they are the calls' arrays with room to spare.
  */
-#define SHIM_STACK_GENERATE 524288
+#define SHIM_STACK_GENERATE 655360
 #define SHIM_STACK_OTHERS 65536
 
 /* Refusals, with their places. */
