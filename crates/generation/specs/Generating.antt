@@ -70,11 +70,6 @@ GivenUnder way upstream target = onVerdict (reading upstream .verdict) (GivenOnt
 abbrev pub ImageGiven : ℕ → List ℕ → List ℕ → Given → Type 0
 ImageGiven number upstream target = onWay (wayOf number) (λ (way : Way). GivenUnder way upstream target)
 
--- a model that was read has at most sixteen fences, and a table for each
-pub record Sixteen (m : Model) : Type 0 where
-  pub few : m .fences ≤ 16
-  pub whole : m .fences ≤ length (m .tables)
-
 -- what is made has numbers that fit a byte
 pub record Small (x : Machine) : Type 0 where
   pub way : x .way < 256

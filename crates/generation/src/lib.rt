@@ -2,7 +2,8 @@
 ghost use mathlib.Core.Path.{_≡_};
 ghost use lib.ListN.{length};
 ghost use Rattle.answers.specs.Given.{answerOf, bufferOf, Answers};
-ghost use Rattle.generation.specs.Generating.{headerFor, givenBy, MachineGiven, GivenOnto, GivenUnder, ImageGiven, Sixteen, Small, SmallMade};
+ghost use Rattle.runs.specs.Call.{Whole};
+ghost use Rattle.generation.specs.Generating.{headerFor, givenBy, MachineGiven, GivenOnto, GivenUnder, ImageGiven, Small, SmallMade};
 use answers::Answer;
 use answers::Refusal;
 use image::machine::Header;
@@ -18,13 +19,15 @@ fn header_for(machine: Machine, upstream: Name, target: Name) -> Header
     requires { ⌜ Small machine ⌝ }
     ensures { λ r. ⌜ r ≡ headerFor machine upstream target ⌝ }
 {
+    let first = upstream.bytes;
+    let second = target.bytes;
     Header {
         way: machine.way as u8,
         states: machine.states as u8,
         ups: machine.ups as u8,
         targets: machine.targets as u8,
-        upstream: upstream.bytes,
-        target: target.bytes,
+        upstream: first,
+        target: second,
     }
 }
 
@@ -35,7 +38,11 @@ fn write_made(made: Outcome, upstream: Name, target: Name, rows: &[u16], out: &m
     ensures buffer { λ _. ⌜ now (out .exit) ≡ bufferOf (givenBy made upstream target (now (rows .entry))) (now (out .entry)) ⌝ }
 {
     match made {
-        Outcome::Made(machine) => image::writer::write(header_for(machine, upstream, target), rows, out),
+        Outcome::Made(machine) => image::writer::write(
+            header_for(machine, upstream, target),
+            rows,
+            out,
+        ),
         Outcome::Situations => Answer::Refused(Refusal::TooManySituations),
         Outcome::States => Answer::Refused(Refusal::TooManyStates),
         Outcome::Room => Answer::Refused(Refusal::BufferTooSmall),
@@ -44,7 +51,7 @@ fn write_made(made: Outcome, upstream: Name, target: Name, rows: &[u16], out: &m
 
 // Makes the machine of two models, and writes its image. It owns the machine's rows, which hold 255 states.
 fn generate_models(way: Way, upstream: Model, target: Model, out: &mut [u8]) -> Answer
-    requires { ⌜ Sixteen upstream × Sixteen target ⌝ }
+    requires { ⌜ Whole upstream × Whole target ⌝ }
     ensures { λ r. ⌜ Answers (MachineGiven way upstream target) (now (out .entry)) r (now (out .exit)) ⌝ }
 {
     let ups = upstream.tables;
@@ -62,7 +69,7 @@ fn generate_models(way: Way, upstream: Model, target: Model, out: &mut [u8]) -> 
 
 // With the upstream model read.
 fn generate_onto(way: Way, upstream: Model, target: &[u8], out: &mut [u8]) -> Answer
-    requires { ⌜ Sixteen upstream ⌝ }
+    requires { ⌜ Whole upstream ⌝ }
     ensures { λ r. ⌜ Answers (GivenOnto way upstream (now (target .entry))) (now (out .entry)) r (now (out .exit)) ⌝ }
 {
     let read = models::reader::read(target);
