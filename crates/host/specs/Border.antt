@@ -1,9 +1,11 @@
 -- What the C host gets. Document 01: "The translator host is written in C and calls the library with numbers and byte regions." The refusal's
 -- number is the first of the five numbers of an answer, and is returned too; 0 is success.
 use Prim.Native.Nat.{ℕ}
+use mathlib.Core.Path.{_≡_}
+use mathlib.Core.List.{List}
 use Rattle.answers.specs.declared.Answer.{Answer}
 use Rattle.answers.specs.declared.Refusal.{Refusal}
-use Rattle.answers.specs.Answer.{numberOf}
+use Rattle.answers.specs.Answer.{numberOf, numbersOf}
 use Rattle.models.specs.declared.comparison.Compared.{Compared}
 use Rattle.models.specs.Comparison as Comparison
 
@@ -19,3 +21,10 @@ comparedAs (Compared.Refused why) = Answer.Refused why
 abbrev pub relationOf : Compared → ℕ
 relationOf (Compared.Found is) = Comparison.numberOf is
 relationOf (Compared.Refused why) = 0
+
+-- what is told of a call whose promise relates its answer to the buffer after it: the numbers are those of an answer that keeps the promise
+pub record Tells (Promise : Answer → List ℕ → Type 0) (number : ℕ) (numbers after : List ℕ) : Type 0 where
+  pub what : Answer
+  pub promised : Promise what after
+  pub returned : number ≡ numberIn what
+  pub told : numbers ≡ numbersOf what

@@ -9,7 +9,9 @@ ghost use Rattle.models.specs.BuiltIns.{builtIn, builtInReading};
 ghost use Rattle.models.specs.Calls.{answerAfter, bufferAfter};
 ghost use Rattle.models.specs.Comparison.{comparing};
 ghost use Rattle.runs.specs.Call.{outcome, answerOf, bufferOf};
-ghost use Rattle.host.specs.Border.{numberIn, relationOf, comparedAs};
+ghost use Rattle.image.specs.Run as ImageRun;
+ghost use Rattle.listing.specs.Listed.{Listed, Answers};
+ghost use Rattle.host.specs.Border.{numberIn, relationOf, comparedAs, Tells};
 use answers::Answer;
 use models::comparison::Compared;
 
@@ -55,6 +57,30 @@ pub extern "C" fn shim_run<'a>(
     ensures buffer { λ _. ⌜ now (out .exit) ≡ bufferOf (outcome way (now (upstream .entry)) (now (target .entry)) (now (stream .entry))) (now (out .entry)) ⌝ }
 {
     tell(runs::run(way, upstream, target, stream, out), answer)
+}
+
+// Runs an image's machine from a state; the answer's last number is the state at the end.
+#[no_mangle]
+pub extern "C" fn shim_image_run<'a>(
+    image: &'a [u8],
+    start: u64,
+    stream: &'a [u8],
+    out: &mut [u8],
+    answer: &mut [u64; 5],
+) -> u64
+    ensures number { λ r. ⌜ r ≡ numberIn (ImageRun.answerOf (ImageRun.runOver (now (image .entry)) start (now (stream .entry))) (length (now (out .entry)))) ⌝ }
+    ensures answer { λ _. ⌜ now (answer .exit) ≡ numbersOf (ImageRun.answerOf (ImageRun.runOver (now (image .entry)) start (now (stream .entry))) (length (now (out .entry)))) ⌝ }
+    ensures buffer { λ _. ⌜ now (out .exit) ≡ ImageRun.bufferOf (ImageRun.runOver (now (image .entry)) start (now (stream .entry))) (now (out .entry)) ⌝ }
+{
+    tell(image::run::run(image, start, stream, out), answer)
+}
+
+// The listing of an input: two models, a way and a stream.
+#[no_mangle]
+pub extern "C" fn shim_list(input: &[u8], out: &mut [u8], answer: &mut [u64; 5]) -> u64
+    ensures { λ r. ⌜ Tells (Answers (Listed (now (input .entry))) (now (out .entry))) r (now (answer .exit)) (now (out .exit)) ⌝ }
+{
+    tell(listing::list(input, out), answer)
 }
 
 // The relation, 0 to 3, of the first to the second; 0 where a text is refused.

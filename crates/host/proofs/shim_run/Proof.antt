@@ -1,8 +1,6 @@
 -- `shim_run` meets its contract: it tells what the call below answers. Assumes nothing.
-use mathlib.Core.Path.{ap, _∙_}
-use Rattle.answers.specs.Answer.{numbersOf}
-use Rattle.host.specs.Border.{numberIn}
 use borrow.Author.Needs.{needs}
+use Rattle.host.proofs.Told.{determined}
 use Rattle.host.proofs.shim_run.Statement.{statement}
 use Rattle.host.proofs.shim_run.Tie as tie
 
@@ -16,10 +14,7 @@ same-length : tie.Need-same-length
 same-length c = search needs
 
 returns : tie.Need-returns
-returns c =
-    let t = c .tell .ensures in
-    let w = c .before .before .before .before .run .ensures in
-    (t .0 ∙ ap numberIn (w .0), (t .1 ∙ ap numbersOf (w .0), w .1))
+returns c = determined (c .tell .ensures) (c .before .before .before .before .run .ensures)
 
 pub shim-run-spec : {M : Type 1} → statement M
 shim-run-spec = tie.close (tie.spec run-requires tell-requires same-length returns)

@@ -1,0 +1,29 @@
+-- The contract of a call whose promise is a relation allows one returned number, one set of five numbers and one final buffer, where the call
+-- below has one answer and one final buffer. Assumes nothing.
+use Prim.Native.Nat.{ℕ}
+use mathlib.Core.Path.{_≡_, sym, ap, _∙_}
+use mathlib.Core.List.{List}
+use Rattle.answers.specs.declared.Answer.{Answer}
+use Rattle.answers.specs.Answer.{numbersOf}
+use Rattle.listing.specs.Listed.{Listed, Answers}
+use Rattle.listing.proofs.Unique.{one-answer}
+use Rattle.host.specs.Border.{numberIn, Tells}
+
+-- a promise that one answer and one final buffer keep
+abbrev pub One : (Answer → List ℕ → Type 0) → Type 0
+One Promise = (a b : Answer) (after after′ : List ℕ) → Promise a after → Promise b after′ → (a ≡ b) × (after ≡ after′)
+
+pub tells-one : {Promise : Answer → List ℕ → Type 0} {n n′ : ℕ} {numbers numbers′ after after′ : List ℕ} → One Promise
+    → Tells Promise n numbers after → Tells Promise n′ numbers′ after′
+    → (n ≡ n′) × (numbers ≡ numbers′) × (after ≡ after′)
+tells-one one a b =
+    let e = one (a .what) (b .what) _ _ (a .promised) (b .promised) in (
+      a .returned ∙ ap numberIn (e .0) ∙ sym (b .returned),
+      a .told ∙ ap numbersOf (e .0) ∙ sym (b .told),
+      e .1,
+    )
+
+-- so `shim_list` tells one thing
+pub list-one : {input out : List ℕ} {n n′ : ℕ} {numbers numbers′ after after′ : List ℕ} → Tells (Answers (Listed input) out) n numbers after
+    → Tells (Answers (Listed input) out) n′ numbers′ after′ → (n ≡ n′) × (numbers ≡ numbers′) × (after ≡ after′)
+list-one a b = tells-one (λ x y s t p q. one-answer p q) a b
