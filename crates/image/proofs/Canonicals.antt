@@ -51,11 +51,11 @@ module _ (h : Header) (rows : List ℕ) (can : Canonical h rows) where
   unfolding standsAt
   way-image = placed 3 Place.Way (omega arith) (omega arith) refl
 
-  states-image : statesOf (imageOf h rows) ≡ h .states
+  pub states-image : statesOf (imageOf h rows) ≡ h .states
   unfolding standsAt
   states-image = placed 4 Place.States (omega arith) (omega arith) refl
 
-  ups-image : upstreamFencesOf (imageOf h rows) ≡ h .ups
+  pub ups-image : upstreamFencesOf (imageOf h rows) ≡ h .ups
   unfolding standsAt
   ups-image = placed 5 Place.UpstreamFences (omega arith) (omega arith) refl
 
@@ -248,18 +248,24 @@ module _ (h : Header) (rows : List ℕ) (can : Canonical h rows) where
     target = sym (is-listed 16 _ (h .target) (can .target .size) (λ k l. sym (target-image k l))) i;
   }
 
+  -- what stands in a state's entry
+  pub fence-image : (s a : ℕ) → s < h .states → a < 4 → at (imageOf h rows) (position 1 s (2 * a)) ≡ word rows s a / 256
+  fence-image s a l m =
+      placed _ (Place.Fence s a) (within-image s (2 * a) (h .states) l (omega arith)) (entry-inside s (2 * a) (omega arith)) (fence-at s a m) ∙ used-image s _ l
+
+  pub next-image : (s a : ℕ) → s < h .states → a < 4 → at (imageOf h rows) (position 1 s (2 * a + 1)) ≡ word rows s a % 256
+  next-image s a l m =
+      placed _ (Place.Next s a) (within-image s (2 * a + 1) (h .states) l (omega arith)) (entry-inside s (2 * a + 1) (omega arith)) (next-at s a m) ∙ used-image s _ l
+
+  pub onward-image : (s f : ℕ) → s < h .states → f < 16 → at (imageOf h rows) (position 1 s (8 + f)) ≡ word rows s (4 + f) % 256
+  onward-image s f l m =
+      placed _ (Place.FenceNext s f) (within-image s (8 + f) (h .states) l (omega arith)) (entry-inside s (8 + f) (omega arith)) (onward-at s f m)
+      ∙ used-image s _ l
+
   same-word : (s a : ℕ) → s < h .states → a < stride → entryWord (imageOf h rows) s a ≡ word rows s a
   unfolding entryWord
   same-word s a l k = go (decLt a 4) (decLt (a - 4) (h .ups))
     where
-      fence : a < 4 → at (imageOf h rows) (position 1 s (2 * a)) ≡ word rows s a / 256
-      fence m =
-          placed _ (Place.Fence s a) (within-image s (2 * a) (h .states) l (omega arith)) (entry-inside s (2 * a) (omega arith)) (fence-at s a m) ∙ used-image s _ l
-
-      next : a < 4 → at (imageOf h rows) (position 1 s (2 * a + 1)) ≡ word rows s a % 256
-      next m =
-          placed _ (Place.Next s a) (within-image s (2 * a + 1) (h .states) l (omega arith)) (entry-inside s (2 * a + 1) (omega arith)) (next-at s a m) ∙ used-image s _ l
-
       letter : 4 ≤ a → 4 + (a - 4) ≡ a
       letter m = omega arith
 
@@ -267,15 +273,14 @@ module _ (h : Header) (rows : List ℕ) (can : Canonical h rows) where
       onward m =
           let p : 4 + a ≡ 8 + (a - 4) = omega arith in
           ap (λ (o : ℕ). at (imageOf h rows) (position 1 s o)) p
-          ∙ placed _ (Place.FenceNext s (a - 4)) (within-image s (8 + (a - 4)) (h .states) l (omega arith)) (entry-inside s (8 + (a - 4)) (omega arith)) (onward-at s (a - 4) (omega arith))
-          ∙ used-image s _ l
+          ∙ onward-image s (a - 4) l (omega arith)
           ∙ ap (λ (b : ℕ). word rows s b % 256) (letter m)
 
       go : Dec (a < 4) → Dec (a - 4 < h .ups)
           → choose (ltb a 4) (twoBytes (at (imageOf h rows) (position 1 s (2 * a))) (at (imageOf h rows) (position 1 s (2 * a + 1))))
           (choose (ltb (a - 4) (upstreamFencesOf (imageOf h rows))) (twoBytes 255 (at (imageOf h rows) (position 1 s (4 + a)))) 0)
           ≡ word rows s a
-      go (yes m) d = rw (lt-ltb a 4 m) (omega (arith, fence m, next m))
+      go (yes m) d = rw (lt-ltb a 4 m) (omega (arith, fence-image s a l m, next-image s a l m))
       go (no m) (yes d) =
           let n : 4 ≤ a = omega arith in
           rw (le-ltb a 4 n, ups-image, lt-ltb (a - 4) (h .ups) d)

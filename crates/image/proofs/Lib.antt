@@ -18,3 +18,4 @@ pub mod Steps
 pub mod Runs
 pub mod Endings
 pub mod Theorems
+pub mod WrittenBack

@@ -3,3 +3,4 @@ pub mod Layout
 pub mod Barred
 pub mod Image
 pub mod Run
+pub mod Calls

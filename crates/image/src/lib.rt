@@ -1,4 +1,5 @@
 // The machine image: blocks of 512 bytes, read, written and run over.
+pub mod calls;
 mod checksum;
 mod layout;
 pub mod machine;

@@ -109,7 +109,8 @@ fn is_wrong(image: &[u8], b: usize) -> bool
     if image.len() < from + 512 {
         return true;
     }
-    if checksum::two_bytes(image, from) != b {
+    let number = checksum::two_bytes(image, from);
+    if number != b {
         return true;
     }
     checksum::two_bytes(image, from + 510) != checksum::check(image, from)

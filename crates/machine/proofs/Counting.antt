@@ -14,7 +14,7 @@ use Rattle.mealy.specs.Runs.{Accepted, reached, Same}
 use Rattle.mealy.specs.Arrivals.{More}
 use Rattle.machine.specs.Shim.{lettersOf, shim}
 use Rattle.machine.specs.Spoken.{Letters, operations, spelling, spoken}
-use Rattle.machine.specs.Counted.{SameSituation, SameState, MoreThan, ManySituations, ManyStates}
+use Rattle.machine.specs.Counted.{SameSituation, SameState, MoreThan, ManyStates}
 use Rattle.machine.proofs.Speaking.{spoken-told, heardAs, ends-spelt, done-accepted, accepted-done, accepted-letters, alike-same, goes-on, shim-like}
 use Rattle.machine.proofs.Situated.{reached-situation, puts-apart}
 
@@ -92,8 +92,8 @@ module _ (way : Way) (up target : Model) (few : length (target .fences) ≤ 16) 
           },
     )
 
-  pub many-situations : More (shim way up target) _≡_ 4096 ↔ ManySituations way up target
-  many-situations = counted _≡_ (SameSituation up target) same-situated 4096
+  pub many-situations : (n : ℕ) → More (shim way up target) _≡_ n ↔ MoreThan n way up target (SameSituation up target)
+  many-situations n = counted _≡_ (SameSituation up target) same-situated n
 
   pub many-states : More (shim way up target) (Same (shim way up target)) 255 ↔ ManyStates way up target
   many-states = counted (Same (shim way up target)) (SameState way up target) same-state 255

@@ -12,9 +12,9 @@ use Rattle.tables.specs.declared.table.Table.{Table}
 use Rattle.rule.specs.declared.situation.Situation.{Situation}
 use Rattle.rule.specs.declared.way.Way.{Way}
 use Rattle.mealy.specs.Runs.{taken, Machine, Same}
-use Rattle.mealy.specs.Arrivals.{Entry, Described, More, AtMost}
+use Rattle.mealy.specs.Arrivals.{Entry, Described, More, AtMost, Exactly}
 use Rattle.mealy.specs.Classes.{Numbering, classed, States}
-use Rattle.mealy.proofs.Unique.{Alike, arrivals-at-most}
+use Rattle.mealy.proofs.Unique.{Alike, arrivals-at-most, arrivals-exactly}
 use Rattle.mealy.proofs.Exploring.{explore-end}
 use Rattle.mealy.proofs.Numbering.{numbering-one}
 use Rattle.mealy.proofs.Describing.{numbered-step}
@@ -39,6 +39,9 @@ module _ {m : Machine Situation ℕ} {pairs links table : List ℕ} {count : ℕ
 
   pub few-situations : AtMost m _≡_ 4096
   few-situations = arrivals-at-most m _≡_ equal (found .first) 4096 (omega (arith, found .count, x .index .fits))
+
+  all-situations : Exactly m _≡_ count
+  all-situations = arrivals-exactly m _≡_ equal (found .first) count (found .count)
 
   pub begun : {classes : List ℕ} → length classes ≡ capacity → Blank classes → m .letters ≤ stride → Begun (tabled (m .letters) table) count classes 1
   begun {classes} size blank le =
@@ -133,13 +136,14 @@ module _ (way : Way) (up : Table) (ups : List ℕ) (target : Table) (fences : Li
   pub making : {rows rows′ : List ℕ} → ((z : Numbering count (at classes) n)
       → RowsWritten rows n (λ q. stateEntry table classes letters (z .firsts q)) rows′) → n * stride ≤ length rows
       → (number : ℕ) → number ≡ wayNumber way
-      → Making m way (length ups) (length fences) rows (record { way = number; states = n; ups = length ups; targets = length fences }) rows′
+      → Making m way (length ups) (length fences) rows (record { way = number; situations = count; states = n; ups = length ups; targets = length fences }) rows′
   making {rows} {rows′} write room number e =
       record {
         way-number = e;
         its-ups = refl;
         its-targets = refl;
         few-situations = few-situations x;
+        situations = all-situations x;
         few-states = low;
         states =
             classes-states m (found x) y

@@ -2,7 +2,7 @@
 -- `run` and `onward`. A stream of letters is a stream of operations by the alphabet: 0 l, 1 L, 2 s, 3 S, 4 upwards the upstream fences. Assumes
 -- nothing.
 use Prim.Native.Nat.{ℕ, _+_, _≤_, _<_}
-use mathlib.Core.Path.{_≡_, refl, sym, _∙_, ap}
+use mathlib.Core.Path.{_≡_, refl, sym, _∙_, ap, subst}
 use mathlib.Core.Logic.{_↔_}
 use mathlib.Core.List.{List, []}
 use native.Mathlib.Omega.{arith}
@@ -18,14 +18,14 @@ use Rattle.mealy.specs.Order.{_≺_, _≼_}
 use Rattle.mealy.specs.Arrivals.{arrival, More}
 use Rattle.mealy.specs.Classes.{Closed}
 use Rattle.mealy.proofs.Pigeonhole.{pigeonhole}
-use Rattle.mealy.proofs.Unique.{apart-one, not-more}
+use Rattle.mealy.proofs.Unique.{first-without, apart-one, not-more}
 use Rattle.mealy.proofs.Runs.{same-eq, same-trans, same-sym}
 use Rattle.mealy.proofs.Describing.{starts, lands, run-fresh, ends-within}
 use Rattle.machine.specs.Rows.{answering}
 use Rattle.machine.specs.Shim.{lettersOf, shimOf}
 use Rattle.machine.specs.Generated.{named, Generated}
 use Rattle.machine.specs.Spoken.{Letters, operations, spelling, spoken, AnswersLikeTheRule}
-use Rattle.machine.specs.Counted.{SameState, ManySituations, ManyStates}
+use Rattle.machine.specs.Counted.{SameSituation, SameState, NumberOf, ManySituations, ManyStates}
 use Rattle.machine.specs.declared.machine.Machine.{Machine}
 use Rattle.machine.specs.declared.machine.Outcome.{Outcome}
 use Rattle.machine.proofs.Finish.{equal}
@@ -175,6 +175,26 @@ module _ (way : Way) (up : Table) (ups : List ℕ) (target : Table) (fences rows
       ∙ goes-on way (modelOf up ups) (modelOf target fences) n like (getD ws j []) (here j l .0) (here j l .1 .0) (here j l .1 .1) y r))) in
       omega (arith, fits, made .states .count)
 
+  situations-are : NumberOf (x .situations) way (modelOf up ups) (modelOf target fences) (SameSituation (modelOf up ups) (modelOf target fences))
+  unfolding m
+  situations-are =
+      record {
+        more = λ k h. many-situations way (modelOf up ups) (modelOf target fences) few k .0 (made .situations .more k h);
+        no-more = λ h.
+            not-more m _≡_ equal (x .situations) (made .situations .at-most)
+            (many-situations way (modelOf up ups) (modelOf target fences) few (x .situations) .1 h);
+      }
+
+  -- The number that the machine tells is the number of situations that accepted streams lead to.
+  pub situations-told : (n : ℕ) → (x .situations ≡ n)
+      ↔ NumberOf n way (modelOf up ups) (modelOf target fences) (SameSituation (modelOf up ups) (modelOf target fences))
+  situations-told n = (
+    λ e.
+        subst (λ (k : ℕ). NumberOf k way (modelOf up ups) (modelOf target fences) (SameSituation (modelOf up ups) (modelOf target fences))) e
+        situations-are,
+    λ c. first-without _ (situations-are .more) (situations-are .no-more) (c .more) (c .no-more),
+  )
+
 module _ (way : Way) (up : Table) (ups : List ℕ) (target : Table) (fences rows : List ℕ) (r : Outcome) (rows′ : List ℕ)
     (generated : Generated way up ups target fences rows r rows′) where
   its : length (named fences) ≤ 16
@@ -185,7 +205,7 @@ module _ (way : Way) (up : Table) (ups : List ℕ) (target : Table) (fences rows
   refused-8-exactly-when = (λ e. both .0 (crowded r e generated), λ h. look r generated (both .1 h))
     where
       both : More (shimOf way up (named ups) target (named fences)) _≡_ 4096 ↔ ManySituations way (modelOf up ups) (modelOf target fences)
-      both = many-situations way (modelOf up ups) (modelOf target fences) its
+      both = many-situations way (modelOf up ups) (modelOf target fences) its 4096
 
       crowded : (s : Outcome) → s ≡ Outcome.Situations → Generated way up ups target fences rows s rows′
           → More (shimOf way up (named ups) target (named fences)) _≡_ 4096
@@ -204,7 +224,7 @@ module _ (way : Way) (up : Table) (ups : List ℕ) (target : Table) (fences rows
   refused-9-exactly-when = (λ e. overfull r e generated, λ h. look r generated (h .0) (many .1 (h .1)))
     where
       both : More (shimOf way up (named ups) target (named fences)) _≡_ 4096 ↔ ManySituations way (modelOf up ups) (modelOf target fences)
-      both = many-situations way (modelOf up ups) (modelOf target fences) its
+      both = many-situations way (modelOf up ups) (modelOf target fences) its 4096
 
       many : More (shimOf way up (named ups) target (named fences)) (Same (shimOf way up (named ups) target (named fences))) 255
           ↔ ManyStates way (modelOf up ups) (modelOf target fences)

@@ -14,7 +14,7 @@ use Rattle.rule.specs.declared.way.Way.{Way}
 use Rattle.mealy.specs.Runs.{Answer, taken, Machine as Mealy, Same}
 use Rattle.mealy.specs.Arrivals.{More, Described}
 use Rattle.mealy.proofs.Runs.{untaken, same-sym, same-trans}
-use Rattle.mealy.proofs.Unique.{Alike, not-more, arrivals-at-most, described-unique}
+use Rattle.mealy.proofs.Unique.{Alike, not-more, arrivals-at-most, exactly-unique, described-unique}
 use Rattle.machine.specs.Words.{stride, at}
 use Rattle.machine.specs.Rows.{decoded, rowOf}
 use Rattle.machine.specs.Shim.{shimOf}
@@ -83,6 +83,7 @@ module _ (m : Mealy Situation ℕ) (way : Way) (ups targets : ℕ) (letters : m 
         λ i.
         record {
           way = (b .way-number ∙ sym (c .way-number)) i;
+          situations = exactly-unique m _≡_ equal (b .situations) (c .situations) i;
           states = one .0 i;
           ups = (b .its-ups ∙ sym (c .its-ups)) i;
           targets = (b .its-targets ∙ sym (c .its-targets)) i;

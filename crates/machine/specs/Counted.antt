@@ -37,3 +37,8 @@ ManySituations way up target = MoreThan 4096 way up target (SameSituation up tar
 
 abbrev pub ManyStates : Way → Model → Model → Type 0
 ManyStates way up target = MoreThan 255 way up target (SameState way up target)
+
+-- there are n: more than any fewer, and not more than n
+pub record NumberOf (n : ℕ) (way : Way) (up target : Model) (R : Stream → Stream → Stream → Stream → Type 0) : Type 0 where
+  pub more : (k : ℕ) → k < n → MoreThan k way up target R
+  pub no-more : MoreThan n way up target R → ⊥

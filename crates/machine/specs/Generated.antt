@@ -9,7 +9,7 @@ use Rattle.tables.specs.declared.table.Table.{Table}
 use Rattle.rule.specs.declared.situation.Situation.{Situation}
 use Rattle.rule.specs.declared.way.Way.{Way}
 use Rattle.mealy.specs.Runs.{Answer, Machine as Mealy, Same}
-use Rattle.mealy.specs.Arrivals.{More, AtMost, Described}
+use Rattle.mealy.specs.Arrivals.{More, AtMost, Exactly, Described}
 use Rattle.machine.specs.Words.{stride, at}
 use Rattle.machine.specs.Rows.{rowOf}
 use Rattle.machine.specs.Shim.{shimOf}
@@ -26,12 +26,13 @@ pub data Canonical (targets states w : ℕ) : Type 0 where
   refusing : w ≡ 65024 → Canonical targets states w
   passing : (w / 256 < targets) ⊎ (w / 256 ≡ 255) → w % 256 < states → Canonical targets states w
 
--- the machine made: its rows describe the states, and all else of the array is as it was
+-- the machine made: it tells how many situations there are, its rows describe the states, and all else of the array is as it was
 pub record Making (m : Mealy Situation ℕ) (way : Way) (ups targets : ℕ) (rows : List ℕ) (x : Machine) (rows′ : List ℕ) : Type 0 where
   pub way-number : x .way ≡ wayNumber way
   pub its-ups : x .ups ≡ ups
   pub its-targets : x .targets ≡ targets
   pub few-situations : AtMost m _≡_ 4096
+  pub situations : Exactly m _≡_ (x .situations)
   pub few-states : x .states ≤ 255
   pub states : Described m (Same m) (x .states) (rowOf rows′)
   pub size : length rows′ ≡ length rows

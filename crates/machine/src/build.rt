@@ -58,6 +58,7 @@ pub(crate) fn build<'a>(
     rows::write_rows(table, classes, rows, letters, count, states);
     Outcome::Made(Machine {
         way: way_number(way),
+        situations: count,
         states,
         ups: ups.len(),
         targets: fences.len(),

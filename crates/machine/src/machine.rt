@@ -3,6 +3,7 @@
 pub struct Machine {
     // 0 sparing, 1 full
     pub way: u64,
+    pub situations: usize,
     pub states: usize,
     // upstream fences, and target fences
     pub ups: usize,

@@ -1,6 +1,6 @@
-// Machines: the number of states, or the refusal, of every built-in model on every other, a line for each upstream model, first the sparing way and
+// Machines: situations/states, or the refusal, of every built-in model on every other, a line for each upstream model, first the sparing way and
 // then the full way; the rows of TSO on ARM, both ways, a line for each state and letter with its fence and the next state; and the models at the
-// limits. How many situations there are is not told: a machine does not hold that number.
+// limits, the sparing way and the full way.
 // The stored output comes from the model in `host/model`, which shares nothing with this code: a script asked `shim-model machine` for each pair.
 mod limits;
 
@@ -45,6 +45,8 @@ fn generate(way: u64, upstream: Model, target: Model, rows: &mut [u16]) -> Outco
 fn print_outcome(outcome: Outcome) {
     match outcome {
         Outcome::Made(x) => {
+            io::print_decimal(1, x.situations as u64);
+            io::write_all(1, b"/");
             io::print_decimal(1, x.states as u64);
         }
         Outcome::Situations => {

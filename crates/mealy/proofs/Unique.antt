@@ -1,4 +1,4 @@
--- The first arrivals are determined, and so are their rows; more than n and at most n exclude each other. Assumes nothing.
+-- The first arrivals are determined, and so are their rows and their number; more than n and at most n exclude each other. Assumes nothing.
 use Prim.Native.Nat.{ℕ, zero, suc, _≤_, _<_, zero-le}
 use mathlib.Core.Path.{_≡_, refl, sym, _∙_, ap}
 use mathlib.Core.Logic.{_⊎_, inl, inr, ⊎-elim}
@@ -9,13 +9,18 @@ use lib.ListN.{length, getD}
 use lib.Seq.{ext-getD}
 use Rattle.mealy.specs.Runs.{Answer, refused, taken, Machine}
 use Rattle.mealy.specs.Order.{_≺_}
-use Rattle.mealy.specs.Arrivals.{arrival, Apart, Known, Arrivals, More, AtMost, Entry, Described}
+use Rattle.mealy.specs.Arrivals.{arrival, Apart, Known, Arrivals, More, AtMost, Exactly, Entry, Described}
 use Rattle.mealy.proofs.Order.{below-irrefl, below-trans, at-most-antisym}
 use Rattle.mealy.proofs.Pigeonhole.{pigeonhole}
 
 -- of two numbers
 pub order : (i j : ℕ) → (i < j) ⊎ ((i ≡ j) ⊎ (j < i))
 order i j = elim (decLt i j) [ yes p ↦ inl p | no p ↦ elim (decLt j i) [ yes q ↦ inr (inr q) | no q ↦ inr (inl (omega arith)) ] ]
+
+-- of two numbers, each the first that has not the property, neither is below the other
+pub first-without : (P : ℕ → Type 0) {k n : ℕ} → ((i : ℕ) → i < k → P i) → (P k → ⊥) → ((i : ℕ) → i < n → P i) → (P n → ⊥) → k ≡ n
+first-without P {k} {n} below here below′ here′ =
+    ⊎-elim (λ l. absurd (here (below′ k l))) (⊎-elim (λ e. e) (λ l. absurd (here′ (below n l)))) (order k n)
 
 -- what is asked of the relation
 pub record Alike {S : Type 0} (R : S → S → Type 0) : Type 0 where
@@ -41,6 +46,17 @@ module _ {S O : Type 0} (m : Machine S O) (R : S → S → Type 0) (eq : Alike R
   pub arrivals-at-most : {ws : List (List ℕ)} → Arrivals m R ws → (n : ℕ) → length ws ≤ n → AtMost m R n
   arrivals-at-most {ws} a n h =
       record { streams = ws; few = h; covers = λ w g. let to = a .covers w g in (to .0, to .1, to .2) }
+
+  -- and exactly as many as they are
+  pub arrivals-exactly : {ws : List (List ℕ)} → Arrivals m R ws → (n : ℕ) → length ws ≡ n → Exactly m R n
+  arrivals-exactly {ws} a n e =
+      record {
+        at-most = arrivals-at-most a n (omega arith);
+        more = λ k h. record { streams = ws; many = omega arith; accepted = a .accepted; apart = a .apart };
+      }
+
+  pub exactly-unique : {k n : ℕ} → Exactly m R k → Exactly m R n → k ≡ n
+  exactly-unique {k} {n} a b = first-without (More m R) (a .more) (not-more k (a .at-most)) (b .more) (not-more n (b .at-most))
 
   -- the numbers of arrivals go by the order of their streams
   pub rising-back : {ws : List (List ℕ)} → Arrivals m R ws → (i j : ℕ) → i < length ws → j < length ws → getD ws i [] ≺ getD ws j [] → i < j

@@ -47,6 +47,11 @@ pub record AtMost {S O : Type 0} (m : Machine S O) (R : S → S → Type 0) (n :
   pub few : length streams ≤ n
   pub covers : (w : List ℕ) → Accepted m w → Known m R streams (reached m w)
 
+-- there are exactly n: at most n, and more than any fewer
+pub record Exactly {S O : Type 0} (m : Machine S O) (R : S → S → Type 0) (n : ℕ) : Type 0 where
+  pub at-most : AtMost m R n
+  pub more : (k : ℕ) → k < n → More m R k
+
 -- a row's entry is the machine's answer at an arrival, with the number of the arrival that the longer stream leads to
 abbrev pub Entry : {S O : Type 0} → Machine S O → (S → S → Type 0) → List (List ℕ) → ℕ → ℕ → Answer O ℕ → Type 0
 Entry m R ws i a refused = m .step (arrival m ws i) a ≡ refused

@@ -1,0 +1,30 @@
+-- Document 01: "7 last"; "A refusal returns its number and place ..; every buffer keeps its former bytes." A call that writes comes to something to
+-- give before its buffer is looked at, and that is what it answers where the buffer has room.
+use Prim.Native.Nat.{ℕ}
+use mathlib.Core.Path.{_≡_}
+use mathlib.Core.List.{List}
+use lib.ListN.{length}
+use Rattle.answers.specs.declared.Refusal.{Refusal}
+use Rattle.answers.specs.declared.Answer.{Answer}
+use Rattle.answers.specs.Written.{written, writing}
+
+-- bytes to write, with the fences and the end state to tell; or a refusal
+pub data Given : Type 0 where
+  gives : List ℕ → ℕ → ℕ → Given
+  refuses : Refusal → Given
+
+-- the answer where the buffer has room for so many bytes, and the buffer after it
+abbrev pub answerOf : Given → ℕ → Answer
+answerOf (gives bytes fences state) room = writing bytes fences state room
+answerOf (refuses why) room = Answer.Refused why
+
+abbrev pub bufferOf : Given → List ℕ → List ℕ
+bufferOf (gives bytes fences state) out = written bytes out
+bufferOf (refuses why) out = out
+
+-- where what is to be given is told by a property: the call answers something of that property
+pub record Answers (Right : Given → Type 0) (out : List ℕ) (r : Answer) (after : List ℕ) : Type 0 where
+  pub given : Given
+  pub right : Right given
+  pub answer : r ≡ answerOf given (length out)
+  pub buffer : after ≡ bufferOf given out

@@ -1,0 +1,3 @@
+pub mod Stages
+pub mod Standing
+pub mod Running

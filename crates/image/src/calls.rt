@@ -1,0 +1,66 @@
+// The call that reads an image and writes it back.
+ghost use mathlib.Core.Path.{_≡_};
+ghost use lib.ListN.{length};
+ghost use Rattle.image.specs.Run.{answerOf, bufferOf};
+ghost use Rattle.image.specs.Layout.{at};
+ghost use Rattle.image.specs.Calls.{writtenBack, headerAs};
+use crate::checksum;
+use crate::reader;
+use crate::verdict;
+use crate::verdict::Verdict;
+use crate::writer;
+use answers::Answer;
+
+fn write_back(image: &[u8], out: &mut [u8]) -> Answer
+    ensures answer { λ r. ⌜ r ≡ answerOf (writtenBack (now (image .entry))) (length (now (out .entry))) ⌝ }
+    ensures buffer { λ _. ⌜ now (out .exit) ≡ bufferOf (writtenBack (now (image .entry))) (now (out .entry)) ⌝ }
+{
+    let mut rows = [0u16; 5100];
+    let reading = reader::read(image, &mut rows);
+    let verdict = reading.verdict;
+    let header = reading.header;
+    match verdict {
+        Verdict::Refused(why) => Answer::Refused(why),
+        Verdict::Accepted => {
+            let n = checksum::wide(header.states) * 20;
+            writer::write(header, &rows[..n], out)
+        }
+    }
+}
+
+// A byte among the numbers of a header.
+fn number_at(image: &[u8], i: usize) -> u64
+    ensures { λ r. ⌜ r ≡ at (now (image .entry)) i ⌝ }
+{
+    verdict::byte_at(image, i) as u64
+}
+
+// Way, states, upstream fences and target fences, of an image that was written back.
+fn header_of(image: &[u8], answer: Answer) -> [u64; 4]
+    ensures { λ r. ⌜ r ≡ headerAs (now (image .entry)) answer ⌝ }
+{
+    match answer {
+        Answer::Done {
+            written: _,
+            fences: _,
+            state: _,
+        } => [
+            number_at(image, 3),
+            number_at(image, 4),
+            number_at(image, 5),
+            number_at(image, 6),
+        ],
+        Answer::Refused(_) => [0, 0, 0, 0],
+    }
+}
+
+// Reads an image and writes it back; the header is told with it, zeros where refused.
+pub fn rewrite(image: &[u8], header: &mut [u64; 4], out: &mut [u8]) -> Answer
+    ensures answer { λ r. ⌜ r ≡ answerOf (writtenBack (now (image .entry))) (length (now (out .entry))) ⌝ }
+    ensures header { λ _. ⌜ now (header .exit) ≡ headerAs (now (image .entry)) (answerOf (writtenBack (now (image .entry))) (length (now (out .entry)))) ⌝ }
+    ensures buffer { λ _. ⌜ now (out .exit) ≡ bufferOf (writtenBack (now (image .entry))) (now (out .entry)) ⌝ }
+{
+    let answer = write_back(image, out);
+    *header = header_of(image, answer);
+    answer
+}
