@@ -9,6 +9,7 @@ ghost use Rattle.models.specs.BuiltIns.{builtIn, builtInReading};
 ghost use Rattle.models.specs.Calls.{answerAfter, bufferAfter};
 ghost use Rattle.models.specs.Comparison.{comparing};
 ghost use Rattle.runs.specs.Call.{outcome, answerOf, bufferOf};
+ghost use Rattle.answers.specs.Given as Given;
 ghost use Rattle.image.specs.Run as ImageRun;
 ghost use Rattle.listing.specs.Listed.{Listed, Answers};
 ghost use Rattle.host.specs.Border.{numberIn, relationOf, comparedAs, Tells};
@@ -68,9 +69,9 @@ pub extern "C" fn shim_image_run<'a>(
     out: &mut [u8],
     answer: &mut [u64; 5],
 ) -> u64
-    ensures number { λ r. ⌜ r ≡ numberIn (ImageRun.answerOf (ImageRun.runOver (now (image .entry)) start (now (stream .entry))) (length (now (out .entry)))) ⌝ }
-    ensures answer { λ _. ⌜ now (answer .exit) ≡ numbersOf (ImageRun.answerOf (ImageRun.runOver (now (image .entry)) start (now (stream .entry))) (length (now (out .entry)))) ⌝ }
-    ensures buffer { λ _. ⌜ now (out .exit) ≡ ImageRun.bufferOf (ImageRun.runOver (now (image .entry)) start (now (stream .entry))) (now (out .entry)) ⌝ }
+    ensures number { λ r. ⌜ r ≡ numberIn (Given.answerOf (ImageRun.runOver (now (image .entry)) start (now (stream .entry))) (length (now (out .entry)))) ⌝ }
+    ensures answer { λ _. ⌜ now (answer .exit) ≡ numbersOf (Given.answerOf (ImageRun.runOver (now (image .entry)) start (now (stream .entry))) (length (now (out .entry)))) ⌝ }
+    ensures buffer { λ _. ⌜ now (out .exit) ≡ Given.bufferOf (ImageRun.runOver (now (image .entry)) start (now (stream .entry))) (now (out .entry)) ⌝ }
 {
     tell(image::run::run(image, start, stream, out), answer)
 }
