@@ -5,7 +5,8 @@ use mathlib.Core.Path.{_≡_, sym, ap, _∙_}
 use mathlib.Core.List.{List}
 use Rattle.answers.specs.declared.Answer.{Answer}
 use Rattle.answers.specs.Answer.{numbersOf}
-use Rattle.listing.specs.Listed.{Listed, Answers}
+use Rattle.answers.specs.Given.{Answers}
+use Rattle.listing.specs.Listed.{Listed}
 use Rattle.listing.proofs.Unique.{one-answer}
 use Rattle.host.specs.Border.{numberIn, Tells}
 
