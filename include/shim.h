@@ -14,9 +14,6 @@
  * A region is a pointer and its length in bytes. A length of nought is always legal, and its pointer may then be null.
  * Regions of one call, with *answer, *relation and `header`, must not overlap each other, and a region must be all there.
  *
- * Of the eight calls the archive has the first four so far: shim_builtin, shim_model, shim_compare and shim_run. The other
- * four stand here as they will be, and a program that calls them does not link yet.
- *
  * Refusals are tried in the order that each call lists; the first that holds is given. "text: 1, 2, 3" below means the
  * refusals of reading a model's text in that order.
  *
