@@ -12,6 +12,14 @@ fn show_filled(text: &[u8], n: usize)
     show::show(&input[..n]);
 }
 
+// Such an input, and one that has an operation more.
+fn show_limit(text: &[u8], n: usize)
+    requires { ⌜ (length (now text) < n) × (n < 32769) ⌝ }
+{
+    show_filled(text, n);
+    show_filled(text, n + 1);
+}
+
 fn main() {
     // An empty stream: nothing after `out `.
     show::show(
@@ -80,21 +88,13 @@ fn main() {
         b"model U\nppo ---- ---- ---- ----\nfence f0 --MM M--- ---- S---\nfence f1 M-MS S--- --SS S-MM\nfence f2 --N- ---- ---M -N--\nend\nmodel T\nppo -N-- --MM NMMN NN--\nfence g0 SSNS NSSN NNNM N--N\nfence g1 S-M- N-SN -MSS SSSS\nfence g2 S-N- MNSS N-SS -M-N\nfence g3 -SS- M-SN SS-N MSSN\nfence full SSSS SSSS SSSS SSSS\nend\nway sparing\nrun l\n",
     );
     // A stream of 4,096 operations, whose output is the longest that there is, and one of 4,097: before it stand 152 bytes.
-    show_filled(
+    show_limit(
         b"model TSO\nppo SSSS SSSS SSSS -SMS\nfence mfence SSSS SSSS SSSS SSSS\nend\nmodel ARM\nppo ---- ---- ---- ----\nfence dmb SSSS SSSS SSSS SSSS\nend\nway full\nrun ",
         4249,
     );
-    show_filled(
-        b"model TSO\nppo SSSS SSSS SSSS -SMS\nfence mfence SSSS SSSS SSSS SSSS\nend\nmodel ARM\nppo ---- ---- ---- ----\nfence dmb SSSS SSSS SSSS SSSS\nend\nway full\nrun ",
-        4250,
-    );
     // 32,768 bytes and one more, of an input that is else refused by 3: its upstream repeats a fence name.
-    show_filled(
+    show_limit(
         b"model two\nppo ---- ---- ---- ----\nfence a ---- ---- ---- ----\nfence a ---- ---- ---- ----\nend\nmodel ARM\nppo ---- ---- ---- ----\nfence dmb SSSS SSSS SSSS SSSS\nend\nway full\nrun ",
         32768,
-    );
-    show_filled(
-        b"model two\nppo ---- ---- ---- ----\nfence a ---- ---- ---- ----\nfence a ---- ---- ---- ----\nend\nmodel ARM\nppo ---- ---- ---- ----\nfence dmb SSSS SSSS SSSS SSSS\nend\nway full\nrun ",
-        32769,
     );
 }
