@@ -1,0 +1,42 @@
+-- `round_trips_from` is safe and ends. Assumes nothing.
+use Prim.Native.Nat.{_-_}
+use borrow.Author.Needs.{needs}
+use Rattle.image_cases.proofs.round_trips_from.Statement.{statement}
+use Rattle.image_cases.proofs.round_trips_from.Tie as tie
+
+abbrev Inv-loop : tie.InvT-loop
+Inv-loop way upstream target₀ target = Unit
+
+abbrev μ-loop : tie.MeasureT-loop
+μ-loop way upstream target₀ target = 16 - target
+
+loop-holds : tie.Need-loop-holds Inv-loop μ-loop
+loop-holds c = search needs
+
+round-trip-requires : tie.Need-round-trip-requires Inv-loop μ-loop
+round-trip-requires c κs = search needs
+
+add-target : tie.Need-add-target Inv-loop μ-loop
+add-target c = search needs
+
+loop-less : tie.Need-loop-less Inv-loop μ-loop
+loop-less c = search needs
+
+loop-again : tie.Need-loop-again Inv-loop μ-loop
+loop-again c = search needs
+
+returns : tie.Need-returns Inv-loop μ-loop
+returns c = search needs
+
+pub round-trips-from-spec : {M : Type 1} → statement M
+round-trips-from-spec =
+    tie.close
+    (tie.spec
+    Inv-loop
+    μ-loop
+    loop-holds
+    round-trip-requires
+    add-target
+    loop-less
+    loop-again
+    returns)

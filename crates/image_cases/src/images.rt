@@ -1,0 +1,72 @@
+// The images that the cases are made of, each to the front of a buffer.
+use answers::Answer;
+use image::machine::Header;
+
+// Two built-in models, or their refusal.
+pub fn generated(way: u64, upstream: u64, target: u64, out: &mut [u8]) -> Answer {
+    let mut one = [0u8; 1024];
+    let first = models::calls::write_built_in(upstream, &mut one);
+    let mut two = [0u8; 1024];
+    let second = models::calls::write_built_in(target, &mut two);
+    generation::generate(
+        way,
+        crate::show::front(&one, crate::show::written(first)),
+        crate::show::front(&two, crate::show::written(second)),
+        out,
+    )
+}
+
+fn word(fence: usize, next: usize) -> u16 {
+    (fence % 256 * 256 + next % 256) as u16
+}
+
+// In a machine of so many states, each kind of entry in turn: no fence, every target fence, refused, the last fence; every upstream fence.
+fn handmade_word(states: usize, state: usize, letter: usize) -> u16 {
+    if states <= state {
+        return 0;
+    }
+    match letter {
+        0 => word(255, if state + 1 < states { state + 1 } else { 0 }),
+        1 => word(state % 16, state / 2),
+        2 => if state % 2 == 0 {
+            word(255, state)
+        } else {
+            word(254, 0)
+        },
+        3 => word(15, states - 1),
+        _ => word(255, if letter <= state { state - letter } else { 0 }),
+    }
+}
+
+fn handmade_rows(states: usize, rows: &mut [u16]) {
+    let mut j = 0;
+    while j < rows.len() {
+        rows[j] = handmade_word(states, j / 20, j % 20);
+        j += 1;
+    }
+}
+
+// A machine of so many states, with names of sixteen bytes and sixteen fences on both sides.
+pub fn handmade(states: u8, out: &mut [u8]) -> Answer {
+    let mut rows = [0u16; 5100];
+    handmade_rows(states as usize, &mut rows);
+    let header = Header {
+        way: 1,
+        states,
+        ups: 16,
+        targets: 16,
+        upstream: *b"ABCDEFGHIJKLMNOZ",
+        target: *b"az09_AZ_09_az_09",
+    };
+    image::writer::write(header, &rows, out)
+}
+
+// SC on a target that orders nothing and has no fence: only the first access is taken.
+pub fn sc_on_bare(out: &mut [u8]) -> Answer {
+    generation::generate(
+        0,
+        b"model SC\nppo SSSS SSSS SSSS SSSS\nend\n",
+        b"model BARE\nppo ---- ---- ---- ----\nend\n",
+        out,
+    )
+}

@@ -1,0 +1,118 @@
+// Runs over images.
+use crate::images;
+use crate::show;
+use crate::tries;
+
+// Over the image of TSO on ARM in the full way, into a buffer of so many bytes.
+fn into<'a>(name: &'a [u8], start: u64, stream: &'a [u8], room: usize) {
+    let mut image = [0u8; 1024];
+    images::generated(1, 1, 15, &mut image);
+    io::write_all(1, name);
+    io::write_all(1, b" from ");
+    io::print_decimal(1, start);
+    io::write_all(1, b":");
+    tries::run(&image, start, stream, room);
+    io::write_all(1, b"\n");
+}
+
+// From each of its three states, and from a fourth.
+fn from_each_state(stream: &[u8]) {
+    let mut start = 0;
+    while start < 4 {
+        into(stream, start, stream, 8192);
+        start += 1;
+    }
+}
+
+fn short_streams() {
+    from_each_state(b"");
+    from_each_state(b"l");
+    from_each_state(b"L");
+    from_each_state(b"s");
+    from_each_state(b"S");
+    from_each_state(b"0");
+    from_each_state(b"ll");
+    from_each_state(b"sl");
+    from_each_state(b"s0l");
+    from_each_state(b"ssl0l");
+    from_each_state(b"LSlsSL0sl");
+}
+
+fn faulty_streams() {
+    from_each_state(b"x");
+    from_each_state(b"1");
+    from_each_state(b"lx1");
+    from_each_state(b"l1x");
+    from_each_state(b"ssF");
+    from_each_state(b"ssG");
+    from_each_state(b"ssa");
+}
+
+fn starts() {
+    into(b"l", 255, b"l", 8192);
+    into(b"l", 256, b"l", 8192);
+    into(b"l", 4294967296, b"l", 8192);
+    into(b"l", 18446744073709551615, b"l", 8192);
+}
+
+fn rooms() {
+    into(b"nothing in 0", 1, b"", 0);
+    into(b"a fence alone in 0", 1, b"0", 0);
+    into(b"2 bytes in 0", 1, b"l", 0);
+    into(b"2 bytes in 1", 1, b"l", 1);
+    into(b"2 bytes in 2", 1, b"l", 2);
+    into(b"2 bytes in 3", 1, b"l", 3);
+    into(b"a fault and no room", 1, b"lx", 0);
+}
+
+// State 1 has a fence before every access and leads back to itself.
+fn long_streams() {
+    let loads = [b'l'; 4096];
+    into(b"4,096 loads", 0, &loads, 8192);
+    into(b"4,096 loads fill 8,192 bytes", 1, &loads, 8192);
+    into(b"4,096 loads in 8,193 bytes", 1, &loads, 8193);
+    into(b"4,096 loads in 8,191 bytes", 1, &loads, 8191);
+    let fences = [b'0'; 4096];
+    into(b"4,096 fences", 2, &fences, 0);
+}
+
+// Each has a fault of a later stage too.
+fn longer_streams() {
+    let loads = [b'l'; 4097];
+    into(b"4,097 loads", 1, &loads, 0);
+    into(b"4,097 loads", 3, &loads, 0);
+    let faulty = [b'x'; 4097];
+    into(b"4,097 faulty bytes", 0, &faulty, 0);
+}
+
+fn bare(stream: &[u8], start: u64) {
+    let mut image = [0u8; 1024];
+    images::sc_on_bare(&mut image);
+    io::write_all(1, b"SC on BARE, ");
+    io::write_all(1, stream);
+    io::write_all(1, b" from ");
+    io::print_decimal(1, start);
+    io::write_all(1, b":");
+    tries::run(&image, start, stream, 8192);
+    io::write_all(1, b"\n");
+}
+
+fn refused_accesses() {
+    bare(b"l", 0);
+    bare(b"ll", 0);
+    bare(b"llx", 0);
+    bare(b"lx", 0);
+    bare(b"l0l", 0);
+    bare(b"s", 1);
+    bare(b"", 1);
+}
+
+pub fn all() {
+    short_streams();
+    faulty_streams();
+    starts();
+    rooms();
+    long_streams();
+    longer_streams();
+    refused_accesses();
+}
