@@ -5,8 +5,11 @@ use mathlib.Core.Path.{_≡_, sym, ap, _∙_}
 use mathlib.Core.List.{List}
 use Rattle.answers.specs.declared.Answer.{Answer}
 use Rattle.answers.specs.Answer.{numbersOf}
-use Rattle.listing.specs.Listed.{Listed, Answers}
+use Rattle.answers.specs.Given.{Answers}
+use Rattle.listing.specs.Listed.{Listed}
 use Rattle.listing.proofs.Unique.{one-answer}
+use Rattle.generation.specs.Generating.{ImageGiven}
+use Rattle.generation.proofs.Unique as generated
 use Rattle.host.specs.Border.{numberIn, Tells}
 
 -- a promise that one answer and one final buffer keep
@@ -27,3 +30,9 @@ tells-one one a b =
 pub list-one : {input out : List ℕ} {n n′ : ℕ} {numbers numbers′ after after′ : List ℕ} → Tells (Answers (Listed input) out) n numbers after
     → Tells (Answers (Listed input) out) n′ numbers′ after′ → (n ≡ n′) × (numbers ≡ numbers′) × (after ≡ after′)
 list-one a b = tells-one (λ x y s t p q. one-answer p q) a b
+
+-- and `shim_generate`
+pub generate-one : (number : ℕ) (upstream target : List ℕ) {out : List ℕ} {n n′ : ℕ} {numbers numbers′ after after′ : List ℕ}
+    → Tells (Answers (ImageGiven number upstream target) out) n numbers after → Tells (Answers (ImageGiven number upstream target) out) n′ numbers′ after′
+    → (n ≡ n′) × (numbers ≡ numbers′) × (after ≡ after′)
+generate-one number upstream target a b = tells-one (λ x y s t p q. generated.one-answer number upstream target p q) a b

@@ -9,11 +9,11 @@ ghost use Rattle.models.specs.BuiltIns.{builtIn, builtInReading};
 ghost use Rattle.models.specs.Calls.{answerAfter, bufferAfter};
 ghost use Rattle.models.specs.Comparison.{comparing};
 ghost use Rattle.runs.specs.Call.{outcome, answerOf, bufferOf};
-ghost use Rattle.image.specs.Run as ImageRun;
+ghost use Rattle.image.specs.Run.{runOver};
 ghost use Rattle.image.specs.Calls.{writtenBack, headerAs};
-ghost use Rattle.answers.specs.Given.{Answers};
+ghost use Rattle.answers.specs.Given as Given;
 ghost use Rattle.generation.specs.Generating.{ImageGiven};
-ghost use Rattle.listing.specs.Listed as Listing;
+ghost use Rattle.listing.specs.Listed.{Listed};
 ghost use Rattle.host.specs.Border.{numberIn, relationOf, comparedAs, Tells};
 use answers::Answer;
 use models::comparison::Compared;
@@ -71,7 +71,7 @@ pub extern "C" fn shim_generate<'a>(
     out: &mut [u8],
     answer: &mut [u64; 5],
 ) -> u64
-    ensures { λ r. ⌜ Tells (Answers (ImageGiven way (now (upstream .entry)) (now (target .entry))) (now (out .entry))) r (now (answer .exit)) (now (out .exit)) ⌝ }
+    ensures { λ r. ⌜ Tells (Given.Answers (ImageGiven way (now (upstream .entry)) (now (target .entry))) (now (out .entry))) r (now (answer .exit)) (now (out .exit)) ⌝ }
 {
     tell(generation::generate(way, upstream, target, out), answer)
 }
@@ -84,10 +84,10 @@ pub extern "C" fn shim_image_read(
     header: &mut [u64; 4],
     answer: &mut [u64; 5],
 ) -> u64
-    ensures number { λ r. ⌜ r ≡ numberIn (ImageRun.answerOf (writtenBack (now (image .entry))) (length (now (out .entry)))) ⌝ }
-    ensures header { λ _. ⌜ now (header .exit) ≡ headerAs (now (image .entry)) (ImageRun.answerOf (writtenBack (now (image .entry))) (length (now (out .entry)))) ⌝ }
-    ensures answer { λ _. ⌜ now (answer .exit) ≡ numbersOf (ImageRun.answerOf (writtenBack (now (image .entry))) (length (now (out .entry)))) ⌝ }
-    ensures buffer { λ _. ⌜ now (out .exit) ≡ ImageRun.bufferOf (writtenBack (now (image .entry))) (now (out .entry)) ⌝ }
+    ensures number { λ r. ⌜ r ≡ numberIn (Given.answerOf (writtenBack (now (image .entry))) (length (now (out .entry)))) ⌝ }
+    ensures header { λ _. ⌜ now (header .exit) ≡ headerAs (now (image .entry)) (Given.answerOf (writtenBack (now (image .entry))) (length (now (out .entry)))) ⌝ }
+    ensures answer { λ _. ⌜ now (answer .exit) ≡ numbersOf (Given.answerOf (writtenBack (now (image .entry))) (length (now (out .entry)))) ⌝ }
+    ensures buffer { λ _. ⌜ now (out .exit) ≡ Given.bufferOf (writtenBack (now (image .entry))) (now (out .entry)) ⌝ }
 {
     tell(image::calls::rewrite(image, header, out), answer)
 }
@@ -101,9 +101,9 @@ pub extern "C" fn shim_image_run<'a>(
     out: &mut [u8],
     answer: &mut [u64; 5],
 ) -> u64
-    ensures number { λ r. ⌜ r ≡ numberIn (ImageRun.answerOf (ImageRun.runOver (now (image .entry)) start (now (stream .entry))) (length (now (out .entry)))) ⌝ }
-    ensures answer { λ _. ⌜ now (answer .exit) ≡ numbersOf (ImageRun.answerOf (ImageRun.runOver (now (image .entry)) start (now (stream .entry))) (length (now (out .entry)))) ⌝ }
-    ensures buffer { λ _. ⌜ now (out .exit) ≡ ImageRun.bufferOf (ImageRun.runOver (now (image .entry)) start (now (stream .entry))) (now (out .entry)) ⌝ }
+    ensures number { λ r. ⌜ r ≡ numberIn (Given.answerOf (runOver (now (image .entry)) start (now (stream .entry))) (length (now (out .entry)))) ⌝ }
+    ensures answer { λ _. ⌜ now (answer .exit) ≡ numbersOf (Given.answerOf (runOver (now (image .entry)) start (now (stream .entry))) (length (now (out .entry)))) ⌝ }
+    ensures buffer { λ _. ⌜ now (out .exit) ≡ Given.bufferOf (runOver (now (image .entry)) start (now (stream .entry))) (now (out .entry)) ⌝ }
 {
     tell(image::run::run(image, start, stream, out), answer)
 }
@@ -111,7 +111,7 @@ pub extern "C" fn shim_image_run<'a>(
 // The listing of an input: two models, a way and a stream.
 #[no_mangle]
 pub extern "C" fn shim_list(input: &[u8], out: &mut [u8], answer: &mut [u64; 5]) -> u64
-    ensures { λ r. ⌜ Tells (Listing.Answers (Listing.Listed (now (input .entry))) (now (out .entry))) r (now (answer .exit)) (now (out .exit)) ⌝ }
+    ensures { λ r. ⌜ Tells (Given.Answers (Listed (now (input .entry))) (now (out .entry))) r (now (answer .exit)) (now (out .exit)) ⌝ }
 {
     tell(listing::list(input, out), answer)
 }

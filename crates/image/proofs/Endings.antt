@@ -14,17 +14,18 @@ use Rattle.image.specs.declared.run.Ending.{Ending}
 use Rattle.image.specs.declared.verdict.Verdict.{Verdict}
 use Rattle.image.specs.Layout.{at}
 use Rattle.image.specs.Barred.{verdictOf}
-use Rattle.image.specs.Run.{Ran, ended, stopped, ran, Outcome, refuses, gives, answerOf, bufferOf, refusalOf, outcomeOf, streamLimit, runAs, runOver, Ends}
+use Rattle.answers.specs.Given.{Given, refuses, gives, answerOf, bufferOf}
+use Rattle.image.specs.Run.{Ran, ended, stopped, ran, refusalOf, outcomeOf, streamLimit, runAs, runOver, Ends}
 
 pub refusal-is : (why is : Stop) (i : ℕ) → why ≡ is → refusalOf is i ≡ refusalOf why i
 refusal-is why is i e = ap (λ (w : Stop). refusalOf w i) (sym e)
 
 -- a call answers an outcome
-abbrev pub Answers : Outcome → List ℕ → Answer → List ℕ → Type 0
+abbrev pub Answers : Given → List ℕ → Answer → List ℕ → Type 0
 Answers o out r out′ = (r ≡ answerOf o (length out)) × (out′ ≡ bufferOf o out)
 
-pub answers-same : (o p : Outcome) (out : List ℕ) (r : Answer) (out′ : List ℕ) → o ≡ p → Answers o out r out′ → Answers p out r out′
-answers-same o p out r out′ e h = subst (λ (x : Outcome). Answers x out r out′) e h
+pub answers-same : (o p : Given) (out : List ℕ) (r : Answer) (out′ : List ℕ) → o ≡ p → Answers o out r out′ → Answers p out r out′
+answers-same o p out r out′ e h = subst (λ (x : Given). Answers x out r out′) e h
 
 module _ (r : Ran) (e : Ending) (room : List ℕ) (ends : Ends r e room) where
   pub run-refused : (why : Stop) (i : ℕ) (x : Refusal) (out : List ℕ) → e ≡ Ending.Stopped why i → x ≡ refusalOf why i

@@ -15,7 +15,7 @@ use Rattle.image.specs.declared.machine.Reading.{Reading}
 use Rattle.image.specs.Layout.{at}
 use Rattle.image.specs.Barred.{statesOf, upstreamFencesOf, targetFencesOf, verdictOf}
 use Rattle.image.specs.Image.{stride, imageOf, headerOf, rowsOf, readAs, rowsAs, readingOf, rowsAfter}
-use Rattle.image.specs.Run.{refuses, gives}
+use Rattle.answers.specs.Given.{refuses, gives}
 use Rattle.image.specs.Calls.{backAs, writtenBack, headerAs}
 use Rattle.image.proofs.Readings.{length-rows}
 use Rattle.image.proofs.Endings.{Answers, answers-same}

@@ -7,14 +7,14 @@ use Rattle.answers.specs.declared.Answer.{Answer}
 use Rattle.image.specs.declared.verdict.Verdict.{Verdict}
 use Rattle.image.specs.Layout.{at}
 use Rattle.image.specs.Barred.{statesOf, upstreamFencesOf, targetFencesOf, verdictOf}
-use Rattle.image.specs.Run.{Outcome, refuses, gives}
+use Rattle.answers.specs.Given.{Given, refuses, gives}
 
 -- what is written back is the image itself
-abbrev pub backAs : List ℕ → Verdict → Outcome
+abbrev pub backAs : List ℕ → Verdict → Given
 backAs image (Verdict.Refused why) = refuses why
 backAs image Verdict.Accepted = gives image 0 0
 
-unfoldable pub writtenBack : List ℕ → Outcome
+unfoldable pub writtenBack : List ℕ → Given
 writtenBack image = backAs image (verdictOf image)
 
 -- the four numbers, by what the call answers

@@ -10,9 +10,8 @@ use mathlib.Core.List.{List, [], _∷_, _++_}
 use lib.Dec.{leb, ltb, eqb}
 use mathlib.Core.Path.{_≡_}
 use lib.ListN.{length, take}
-use Rattle.answers.specs.Written.{written, writing}
+use Rattle.answers.specs.Given.{Given, gives, refuses}
 use Rattle.answers.specs.declared.Refusal.{Refusal}
-use Rattle.answers.specs.declared.Answer.{Answer}
 use Rattle.tables.specs.Table.{choose}
 use Rattle.rule.specs.declared.operation.Kind.{Kind}
 use Rattle.rule.specs.declared.operation.Operation.{Operation}
@@ -86,32 +85,21 @@ unfoldable pub ran : List ℕ → ℕ → List ℕ → Ran
 ran image s [] = ended [] 0 s
 ran image s (b ∷ rest) = resumed b (λ (t : ℕ). ran image t rest) (stepAt image s b)
 
--- what a call comes to before its buffer is looked at: a refusal, or what it must write, with its fences and its end state
-pub data Outcome : Type 0 where
-  refuses : Refusal → Outcome
-  gives : List ℕ → ℕ → ℕ → Outcome
-
-abbrev pub answerOf : Outcome → ℕ → Answer
-answerOf (refuses why) room = Answer.Refused why
-answerOf (gives text n s) room = writing text n s room
-
-abbrev pub bufferOf : Outcome → List ℕ → List ℕ
-bufferOf (refuses why) out = out
-bufferOf (gives text n s) out = written text out
+-- what the call comes to before its buffer is looked at
 
 abbrev pub refusalOf : Stop → ℕ → Refusal
 refusalOf Stop.NoOperation i = Refusal.NoOperation i
 refusalOf Stop.NoSuchFence i = Refusal.NoSuchFence i
 refusalOf Stop.NoFenceWillDo i = Refusal.NoFenceWillDo i
 
-abbrev pub outcomeOf : Ran → Outcome
+abbrev pub outcomeOf : Ran → Given
 outcomeOf (ended out n s) = gives out n s
 outcomeOf (stopped why i) = refuses (refusalOf why i)
 
 abbrev pub streamLimit : ℕ
 streamLimit = 4096
 
-abbrev pub runAs : List ℕ → ℕ → List ℕ → Verdict → Outcome
+abbrev pub runAs : List ℕ → ℕ → List ℕ → Verdict → Given
 runAs image start stream (Verdict.Refused why) = refuses why
 runAs image start stream Verdict.Accepted =
     choose (ltb start (statesOf image))
@@ -119,7 +107,7 @@ runAs image start stream Verdict.Accepted =
     (refuses Refusal.OutOfRange)
 
 -- the run over an image
-unfoldable pub runOver : List ℕ → ℕ → List ℕ → Outcome
+unfoldable pub runOver : List ℕ → ℕ → List ℕ → Given
 runOver image start stream = runAs image start stream (verdictOf image)
 
 -- where a step leads is a byte

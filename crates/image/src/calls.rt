@@ -1,7 +1,7 @@
 // The call that reads an image and writes it back.
 ghost use mathlib.Core.Path.{_≡_};
 ghost use lib.ListN.{length};
-ghost use Rattle.image.specs.Run.{answerOf, bufferOf};
+ghost use Rattle.answers.specs.Given.{answerOf, bufferOf};
 ghost use Rattle.image.specs.Layout.{at};
 ghost use Rattle.image.specs.Calls.{writtenBack, headerAs};
 use crate::checksum;

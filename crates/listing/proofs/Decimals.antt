@@ -9,6 +9,8 @@ use borrow.Author.Tests.{lt-ltb, le-ltb, ltb-true, ltb-false}
 use lib.Dec.{ltb}
 use lib.ListN.{length, length-append}
 use Rattle.tables.specs.Table.{choose}
+use Rattle.models.specs.Writing.{Put}
+use Rattle.models.proofs.Putting.{nothing-put}
 use Rattle.listing.specs.Decimal.{digit, digits, decimal}
 
 -- digits enough are as good as more
@@ -34,6 +36,22 @@ pub more-digits : (n : ℕ) → 10 ≤ n → decimal n ≡ decimal (n / 10) ++ d
 unfolding decimal digits
 more-digits zero l = absurd (omega arith)
 more-digits (suc n) l = rw (le-ltb (suc n) 10 l) (ap (λ (x : List ℕ). x ++ digit (suc n % 10)) (enough n (suc n / 10) (suc n / 10) (omega arith) (omega arith)))
+
+-- what has been put when only the last digit is left
+pub record Led (before after : List ℕ) (at behind n : ℕ) : Type 0 where
+  pub ahead : List ℕ
+  pub whole : decimal n ≡ ahead ++ digit (n % 10)
+  pub put : Put before after at behind ahead
+  pub same : length after ≡ length before
+
+pub led-nothing : (b : List ℕ) (at n : ℕ) → n < 10 → Led b b at at n
+led-nothing b at n l =
+    let e : n ≡ n % 10 = omega arith in
+    record { ahead = []; whole = one-digit n l ∙ ap digit e; put = nothing-put; same = refl }
+
+pub led-more : (n : ℕ) {b after : List ℕ} {at behind : ℕ} → 10 ≤ n → Put b after at behind (decimal (n / 10)) → length after ≡ length b
+    → Led b after at behind n
+led-more n l p s = record { ahead = decimal (n / 10); whole = more-digits n l; put = p; same = s }
 
 -- how many
 pub length-digits : (k n : ℕ) → n < 10 ^ suc k → length (decimal n) ≤ suc k

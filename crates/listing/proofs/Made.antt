@@ -4,7 +4,7 @@ use mathlib.Core.Path.{_≡_, sym, ap, ap₂, subst, subst₂, _∙_}
 use mathlib.Core.List.{List, [], _∷_}
 use native.Mathlib.Omega.{arith}
 use lib.ListN.{length, take, length-take}
-use lib.Seq.{take-all, length-take-le}
+use lib.Seq.{length-take-le}
 use Rattle.rule.specs.declared.operation.Operation.{Operation}
 use Rattle.rule.specs.declared.operation.Byte.{Byte}
 use Rattle.rule.specs.Operation.{byteIs}
@@ -12,9 +12,8 @@ use Rattle.rule.specs.declared.way.Way.{Way}
 use Rattle.models.specs.declared.model.Model.{Model}
 use Rattle.models.specs.declared.model.Verdict.{Verdict}
 use Rattle.models.specs.declared.model.Reading.{Reading}
-use Rattle.models.specs.Reading.{reading, Told, over, departs, repeated, accepted}
+use Rattle.models.specs.Reading.{reading, Told}
 use Rattle.models.specs.Writing.{unfilled}
-use Rattle.rule.proofs.Choices.{differ}
 use Rattle.runs.proofs.Whole.{whole-when}
 use Rattle.runs.specs.Bytes.{isFence, fenceBytes}
 use Rattle.machine.specs.declared.machine.Machine.{Machine}
@@ -22,9 +21,11 @@ use Rattle.machine.specs.declared.machine.Outcome.{Outcome}
 use Rattle.machine.specs.Shim.{shimOf}
 use Rattle.machine.specs.Rows.{rowOf}
 use Rattle.machine.specs.Generated.{Making, Built, named, Generated}
+use Rattle.generation.proofs.Canonicals.{few-read, all-named}
 use Rattle.listing.specs.Buffer.{Listable}
 use Rattle.listing.specs.Printed.{listing}
-use Rattle.listing.specs.Listed.{Given, put, ruleOf, textOf, MachineListed, crowded, overfull, made}
+use Rattle.answers.specs.Given.{Given, gives}
+use Rattle.listing.specs.Listed.{ruleOf, textOf, MachineListed, crowded, overfull, made}
 use Rattle.listing.specs.Making.{madeGiven, MadeListable, Sixteen, Ran, Accepted}
 
 one-fence : (b : Byte) → isFence b ≤ 1
@@ -36,10 +37,6 @@ fences-few : (l : List ℕ) → fenceBytes l ≤ length l
 unfolding fenceBytes
 fences-few [] = omega arith
 fences-few (b ∷ l) = omega (arith, one-fence (byteIs b), fences-few l)
-
--- a model that was read has no more fences than an operation can name
-pub all-named : (m : Model) → Sixteen m → named (take (m .fences) (m .tables)) ≡ take (m .fences) (m .tables)
-all-named m s = take-all 16 (take (m .fences) (m .tables)) (omega (arith, s .few, length-take-le (m .fences) (m .tables) (s .whole)))
 
 module _ (way : Way) (upstream target : Model) (output : List ℕ) (fences : ℕ) (u : Sixteen upstream) (t : Sixteen target) (ran : Ran output fences)
     (rows rows′ : List ℕ) (size : length rows ≡ 5100) where
@@ -55,7 +52,7 @@ module _ (way : Way) (upstream target : Model) (output : List ℕ) (fences : ℕ
   makes : (r : Outcome) → Generated way (upstream .ppo) ups (target .ppo) targets rows r rows′ → Makes r
   makes r g =
       subst₂ (λ (a b : List ℕ). Built (shimOf way (upstream .ppo) a (target .ppo) b) way (length a) (length b) rows r rows′)
-      (all-named upstream u) (all-named target t) g
+      (all-named upstream (u .few) (u .whole)) (all-named target (t .few) (t .whole)) g
 
   listable : (r : Outcome) → Makes r → MadeListable r rows′ output fences
   listable (Outcome.Made x) m =
@@ -71,10 +68,10 @@ module _ (way : Way) (upstream target : Model) (output : List ℕ) (fences : ℕ
   listable Outcome.Room m = tt
 
   listed-as : (x : Machine) → x .ups ≡ length ups
-      → put (textOf way upstream target output (x .states) (rowOf rows′)) (fenceBytes output)
+      → gives (textOf way upstream target output (x .states) (rowOf rows′)) (fenceBytes output) 0
       ≡ madeGiven (Outcome.Made x) (upstream .name) (target .name) way rows′ output fences
   listed-as x e =
-      ap₂ (λ (n f : ℕ). put (listing (unfilled (upstream .name .bytes)) (unfilled (target .name .bytes)) way (x .states) (4 + n) (rowOf rows′) output f) f)
+      ap₂ (λ (n f : ℕ). gives (listing (unfilled (upstream .name .bytes)) (unfilled (target .name .bytes)) way (x .states) (4 + n) (rowOf rows′) output f) f 0)
       (sym e) (sym (ran .count))
 
   listed : (r : Outcome) → Makes r → MachineListed way upstream target output (madeGiven r (upstream .name) (target .name) way rows′ output fences)
@@ -92,13 +89,7 @@ module _ (way : Way) (upstream target : Model) (output : List ℕ) (fences : ℕ
   made-listed r g = listed r (makes r g)
 
 -- a model that was read
-sixteen-told : {t : List ℕ} {r : Reading} → Told t r → r .verdict ≡ Verdict.Accepted → r .model .fences ≤ 16
-sixteen-told (over l) e = differ (cc)
-sixteen-told (departs l n k) e = differ (cc)
-sixteen-told (repeated d k l f t s) e = differ (cc)
-sixteen-told (accepted d l f t s) e = f .few
-
 pub sixteen-read : {t : List ℕ} {r : Reading} → r ≡ reading t → Told t r → Accepted t → Sixteen (r .model)
 sixteen-read e told a =
     let v = ap (λ (r : Reading). r .verdict) e ∙ a in
-    record { few = sixteen-told told v; whole = whole-when told v }
+    record { few = few-read told v; whole = whole-when told v }

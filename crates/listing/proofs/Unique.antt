@@ -20,7 +20,9 @@ use Rattle.mealy.proofs.Runs.{same-sym, same-trans}
 use Rattle.mealy.proofs.Unique.{Alike, not-more, arrivals-at-most, described-unique}
 use Rattle.listing.specs.Shape.{Parts}
 use Rattle.listing.specs.Printed.{namesLine, numberLine, stepLine, stateLines, rowLines, outLine}
-use Rattle.listing.specs.Listed.{Given, put, refuse, answerOf, bufferOf, direct, ruleOf, textOf, MachineListed, crowded, overfull, made, PartsListed, halts, runs, ShapeListed, shapeless, shaped, Listed, over, within, Answers}
+use Rattle.answers.specs.Given.{Given, gives, refuses, Answers}
+use Rattle.answers.proofs.Given as given
+use Rattle.listing.specs.Listed.{direct, ruleOf, textOf, MachineListed, crowded, overfull, made, PartsListed, halts, runs, ShapeListed, shapeless, shaped, Listed, over, within}
 
 -- rows that agree where there are states and letters print the same lines
 state-same : (s : ℕ) (row wor : ℕ → Told ℕ ℕ) (n : ℕ) → ((a : ℕ) → a < n → row a ≡ wor a) → stateLines s row n ≡ stateLines s wor n
@@ -70,13 +72,13 @@ module _ (way : Way) (upstream target : Model) (output : List ℕ) where
   machine-one (overfull f a) (made e l d) = absurd (not-more m (Same m) (same-states m) 255 (few-states l d) a)
   machine-one (made f l d) (crowded b) = absurd (not-more m _≡_ equal 4096 f b)
   machine-one (made f l d) (overfull e b) = absurd (not-more m (Same m) (same-states m) 255 (few-states l d) b)
-  machine-one (made f l d) (made e k c) = ap (λ (t : List ℕ). put t (fenceBytes output)) (one-text d c)
+  machine-one (made f l d) (made e k c) = ap (λ (t : List ℕ). gives t (fenceBytes output) 0) (one-text d c)
 
 parts-one : {p : Parts} {g h : Given} → PartsListed p g → PartsListed p h → g ≡ h
 parts-one (halts {why = a} e) (halts {why = b} f) =
     let z : stopped a ≡ stopped b = sym e ∙ f in
     let w : a ≡ b = cc in
-    ap refuse w
+    ap refuses w
 parts-one (halts {why = a} e) (runs {output = b} f n) =
     let z : stopped a ≡ ran b = sym e ∙ f in
     differ (cc)
@@ -102,8 +104,4 @@ one-listing (within l a) (within k b) = shape-one a b
 -- so `list` has one answer and one final buffer
 pub one-answer : {input out after after′ : List ℕ} {r r′ : Answer} → Answers (Listed input) out r after → Answers (Listed input) out r′ after′
     → (r ≡ r′) × (after ≡ after′)
-one-answer {out = out} a b =
-    let e = one-listing (a .gives) (b .gives) in (
-      a .answer ∙ ap (λ (g : Given). answerOf g (length out)) e ∙ sym (b .answer),
-      a .buffer ∙ ap (λ (g : Given). bufferOf g out) e ∙ sym (b .buffer),
-    )
+one-answer {input} = given.one-answer (λ g h a b. one-listing {input = input} a b)

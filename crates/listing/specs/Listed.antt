@@ -7,8 +7,7 @@ use mathlib.Core.List.{List}
 use mathlib.Core.Option.{Option, none, some}
 use lib.ListN.{length}
 use Rattle.answers.specs.declared.Refusal.{Refusal}
-use Rattle.answers.specs.declared.Answer.{Answer}
-use Rattle.answers.specs.Written.{written, writing}
+use Rattle.answers.specs.Given.{Given, gives, refuses}
 use Rattle.rule.specs.declared.situation.Situation.{Situation}
 use Rattle.rule.specs.declared.way.Way.{Way}
 use Rattle.models.specs.declared.model.Model.{Model}
@@ -21,20 +20,6 @@ use Rattle.mealy.specs.Arrivals.{More, AtMost, Described}
 use Rattle.machine.specs.Shim.{shim}
 use Rattle.listing.specs.Shape.{Parts, shape}
 use Rattle.listing.specs.Printed.{listing}
-
--- what a call has to give: a text to write with the run's fences, or a refusal
-pub data Given : Type 0 where
-  put : List ℕ → ℕ → Given
-  refuse : Refusal → Given
-
--- what the call answers then where the buffer has room for so many bytes, and what the buffer holds
-abbrev pub answerOf : Given → ℕ → Answer
-answerOf (put text fences) room = writing text fences 0 room
-answerOf (refuse why) room = Answer.Refused why
-
-abbrev pub bufferOf : Given → List ℕ → List ℕ
-bufferOf (put text fences) out = written text out
-bufferOf (refuse why) out = out
 
 -- the direct run of the stream, with the refusals of the two texts and of the stream
 abbrev pub direct : Parts → Outcome
@@ -51,30 +36,23 @@ textOf way upstream target output k row =
 
 -- after the run: 8, 9, or the listing of the machine's states
 pub data MachineListed (way : Way) (upstream target : Model) (output : List ℕ) : Given → Type 0 where
-  crowded : More (ruleOf way upstream target) _≡_ 4096 → MachineListed way upstream target output (refuse Refusal.TooManySituations)
+  crowded : More (ruleOf way upstream target) _≡_ 4096 → MachineListed way upstream target output (refuses Refusal.TooManySituations)
   overfull : AtMost (ruleOf way upstream target) _≡_ 4096 → More (ruleOf way upstream target) (Same (ruleOf way upstream target)) 255
-      → MachineListed way upstream target output (refuse Refusal.TooManyStates)
+      → MachineListed way upstream target output (refuses Refusal.TooManyStates)
   made : {k : ℕ} {row : ℕ → ℕ → Told ℕ ℕ} → AtMost (ruleOf way upstream target) _≡_ 4096 → k ≤ 255
       → Described (ruleOf way upstream target) (Same (ruleOf way upstream target)) k row
-      → MachineListed way upstream target output (put (textOf way upstream target output k row) (fenceBytes output))
+      → MachineListed way upstream target output (gives (textOf way upstream target output k row) (fenceBytes output) 0)
 
 pub data PartsListed (p : Parts) : Given → Type 0 where
-  halts : {why : Refusal} → direct p ≡ stopped why → PartsListed p (refuse why)
+  halts : {why : Refusal} → direct p ≡ stopped why → PartsListed p (refuses why)
   runs : {output : List ℕ} {g : Given} → direct p ≡ ran output
       → MachineListed (p .way) (reading (p .upstream) .model) (reading (p .target) .model) output g → PartsListed p g
 
 -- the shape comes before all else, but for the length
 pub data ShapeListed : Option Parts → Given → Type 0 where
-  shapeless : ShapeListed none (refuse (Refusal.NotOfTheForm 0))
+  shapeless : ShapeListed none (refuses (Refusal.NotOfTheForm 0))
   shaped : {p : Parts} {g : Given} → PartsListed p g → ShapeListed (some p) g
 
 pub data Listed (input : List ℕ) : Given → Type 0 where
-  over : 32768 < length input → Listed input (refuse Refusal.OverLimit)
+  over : 32768 < length input → Listed input (refuses Refusal.OverLimit)
   within : {g : Given} → length input ≤ 32768 → ShapeListed (shape input) g → Listed input g
-
--- a call answers what it has to give, and the buffer is then as that says
-pub record Answers (Gives : Given → Type 0) (out : List ℕ) (r : Answer) (after : List ℕ) : Type 0 where
-  pub given : Given
-  pub gives : Gives given
-  pub answer : r ≡ answerOf given (length out)
-  pub buffer : after ≡ bufferOf given out

@@ -4,6 +4,7 @@ use mathlib.Core.Path.{_≡_}
 use mathlib.Core.List.{List}
 use lib.ListN.{length}
 use Rattle.answers.specs.declared.Refusal.{Refusal}
+use Rattle.answers.specs.Given.{Given, gives, refuses}
 use Rattle.rule.specs.declared.way.Way.{Way}
 use Rattle.models.specs.declared.model.Model.{Model}
 use Rattle.models.specs.declared.model.Verdict.{Verdict}
@@ -15,14 +16,13 @@ use Rattle.machine.specs.declared.machine.Outcome.{Outcome}
 use Rattle.machine.specs.Rows.{rowOf}
 use Rattle.listing.specs.Buffer.{Listable}
 use Rattle.listing.specs.Printed.{listing}
-use Rattle.listing.specs.Listed.{Given, put, refuse}
 
 abbrev pub madeGiven : Outcome → Name → Name → Way → List ℕ → List ℕ → ℕ → Given
 madeGiven (Outcome.Made x) upstream target way rows output fences =
-    put (listing (unfilled (upstream .bytes)) (unfilled (target .bytes)) way (x .states) (4 + x .ups) (rowOf rows) output fences) fences
-madeGiven Outcome.Situations upstream target way rows output fences = refuse Refusal.TooManySituations
-madeGiven Outcome.States upstream target way rows output fences = refuse Refusal.TooManyStates
-madeGiven Outcome.Room upstream target way rows output fences = refuse Refusal.BufferTooSmall
+    gives (listing (unfilled (upstream .bytes)) (unfilled (target .bytes)) way (x .states) (4 + x .ups) (rowOf rows) output fences) fences 0
+madeGiven Outcome.Situations upstream target way rows output fences = refuses Refusal.TooManySituations
+madeGiven Outcome.States upstream target way rows output fences = refuses Refusal.TooManyStates
+madeGiven Outcome.Room upstream target way rows output fences = refuses Refusal.BufferTooSmall
 
 abbrev pub MadeListable : Outcome → List ℕ → List ℕ → ℕ → Type 0
 MadeListable (Outcome.Made x) rows output fences = Listable x rows output fences

@@ -30,11 +30,10 @@ fn put_decimal(buffer: &mut [u8], at: usize, number: u64) -> usize
     requires { ⌜ at + length (decimal number) ≤ length (now buffer) ⌝ }
     ensures { λ r. ⌜ Put (now (buffer .entry)) (now (buffer .exit)) at r (decimal number) ⌝ }
 {
-    if number < 10 {
-        let digit = [b'0' + number as u8];
-        return put(buffer, at, &digit);
+    let mut behind = at;
+    if 10 <= number {
+        behind = put_decimal(buffer, at, number / 10);
     }
-    let behind = put_decimal(buffer, at, number / 10);
     let digit = [b'0' + (number % 10) as u8];
     put(buffer, behind, &digit)
 }

@@ -1,15 +1,13 @@
 // Inputs worth showing. What they must print is derived with the independent model.
 ghost use Prim.Native.Nat.{_<_, _≤_};
+ghost use lib.ListN.{length};
 
-// An input of so many bytes whose upstream repeats a fence name and whose stream fills it: refused by 3 where it is not too long.
-fn show_long(n: usize)
-    requires { ⌜ (200 < n) × (n ≤ 32769) ⌝ }
+// An input of so many bytes that begins with the text and is filled up by a stream of loads.
+fn show_filled(text: &[u8], n: usize)
+    requires { ⌜ (length (now text) < n) × (n ≤ 32769) ⌝ }
 {
     let mut input = [b'l'; 32769];
-    bytes::copy(
-        b"model two\nppo ---- ---- ---- ----\nfence a ---- ---- ---- ----\nfence a ---- ---- ---- ----\nend\nmodel ARM\nppo ---- ---- ---- ----\nfence dmb SSSS SSSS SSSS SSSS\nend\nway full\nrun ",
-        &mut input,
-    );
+    bytes::copy(text, &mut input);
     input[n - 1] = b'\n';
     show::show(&input[..n]);
 }
@@ -81,7 +79,22 @@ fn main() {
     show::show(
         b"model U\nppo ---- ---- ---- ----\nfence f0 --MM M--- ---- S---\nfence f1 M-MS S--- --SS S-MM\nfence f2 --N- ---- ---M -N--\nend\nmodel T\nppo -N-- --MM NMMN NN--\nfence g0 SSNS NSSN NNNM N--N\nfence g1 S-M- N-SN -MSS SSSS\nfence g2 S-N- MNSS N-SS -M-N\nfence g3 -SS- M-SN SS-N MSSN\nfence full SSSS SSSS SSSS SSSS\nend\nway sparing\nrun l\n",
     );
-    // 32,768 bytes and one more.
-    show_long(32768);
-    show_long(32769);
+    // A stream of 4,096 operations, whose output is the longest that there is, and one of 4,097: before it stand 152 bytes.
+    show_filled(
+        b"model TSO\nppo SSSS SSSS SSSS -SMS\nfence mfence SSSS SSSS SSSS SSSS\nend\nmodel ARM\nppo ---- ---- ---- ----\nfence dmb SSSS SSSS SSSS SSSS\nend\nway full\nrun ",
+        4249,
+    );
+    show_filled(
+        b"model TSO\nppo SSSS SSSS SSSS -SMS\nfence mfence SSSS SSSS SSSS SSSS\nend\nmodel ARM\nppo ---- ---- ---- ----\nfence dmb SSSS SSSS SSSS SSSS\nend\nway full\nrun ",
+        4250,
+    );
+    // 32,768 bytes and one more, of an input that is else refused by 3: its upstream repeats a fence name.
+    show_filled(
+        b"model two\nppo ---- ---- ---- ----\nfence a ---- ---- ---- ----\nfence a ---- ---- ---- ----\nend\nmodel ARM\nppo ---- ---- ---- ----\nfence dmb SSSS SSSS SSSS SSSS\nend\nway full\nrun ",
+        32768,
+    );
+    show_filled(
+        b"model two\nppo ---- ---- ---- ----\nfence a ---- ---- ---- ----\nfence a ---- ---- ---- ----\nend\nmodel ARM\nppo ---- ---- ---- ----\nfence dmb SSSS SSSS SSSS SSSS\nend\nway full\nrun ",
+        32769,
+    );
 }

@@ -3,7 +3,8 @@ use Prim.Native.Nat.{ℕ}
 use mathlib.Core.Path.{_≡_}
 use mathlib.Core.List.{List}
 use Rattle.answers.specs.declared.Answer.{Answer}
-use Rattle.listing.specs.Listed.{Given, answerOf, Listed}
+use Rattle.answers.specs.Given.{Given, answerOf}
+use Rattle.listing.specs.Listed.{Listed}
 
 -- the answer of the listing, whose buffer holds the longest listing
 pub record Shown (input : List ℕ) (r : Answer) : Type 0 where

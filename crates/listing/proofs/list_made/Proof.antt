@@ -8,7 +8,7 @@ use Rattle.answers.specs.declared.Answer.{Answer}
 use Rattle.rule.specs.declared.way.Way.{Way}
 use Rattle.models.specs.declared.model.Name.{Name}
 use Rattle.machine.specs.declared.machine.Outcome.{Outcome}
-use Rattle.listing.specs.Listed.{answerOf, bufferOf}
+use Rattle.answers.specs.Given.{answerOf, bufferOf}
 use Rattle.listing.specs.Making.{madeGiven, MadeListable}
 use borrow.Author.Needs.{needs}
 use Rattle.listing.proofs.list_made.Statement.{statement}

@@ -45,7 +45,7 @@ returns c = let o = c .before .before .before .before .before .before .before .b
     let l = c .before .before .list-made in
     record {
       given = madeGiven (g .result) (o .args .upstream .name) (o .args .target .name) (o .args .way) (g .last .1 .1 .1 .1 .1 .0) (now (o .args .output)) (o .args .fences);
-      gives =
+      right =
           made-listed (o .args .way) (o .args .upstream) (o .args .target) (now (o .args .output)) (o .args .fences) (o .pre .0) (o .pre .1) (o .pre .2)
           (replicate 5100 0) (g .last .1 .1 .1 .1 .1 .0) (length-replicate {A = ℕ} 5100 0) (g .result) (g .ensures);
       answer = l .ensures .0;

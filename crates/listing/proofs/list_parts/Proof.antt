@@ -4,7 +4,8 @@ use mathlib.Core.Path.{refl, sym}
 use denote.Ref.{now}
 use lib.ListN.{replicate, length-replicate}
 use lib.Seq.{length-take-le}
-use Rattle.listing.specs.Listed.{refuse, halts, runs}
+use Rattle.answers.specs.Given.{refuses}
+use Rattle.listing.specs.Listed.{halts, runs}
 use Rattle.listing.proofs.Direct.{both-accepted, call-refused, call-taken}
 use borrow.Author.Needs.{needs}
 use Rattle.listing.proofs.list_parts.Statement.{statement}
@@ -49,8 +50,8 @@ list-run-requires c κs = let a = c .before .before .before .before .before .bef
 returns : tie.Need-returns
 returns c = let a = c .before .before .before .before .before .before .before .before .before .before .before .args in
     record {
-      given = refuse _;
-      gives =
+      given = refuses _;
+      right =
           halts
           (call-refused (a .way) (now (a .upstream)) (now (a .target)) (now (a .stream)) (c .before .before .before .before .before .before .number-of .ensures) (replicate 8192 0) (length-replicate {A = ℕ} 8192 0)
           (c .before .before .before .before .run .ensures .0) (c .before .answer .given .1));
@@ -67,7 +68,7 @@ returns-2 c = let a = c .before .before .before .before .before .before .before 
     let t = call-taken (a .way) (now (a .upstream)) (now (a .target)) (now (a .stream)) (c .before .before .before .before .before .before .before .before .before .before .before .number-of .ensures) (replicate 8192 0) (length-replicate {A = ℕ} 8192 0)
     (r .ensures .0) (r .ensures .1) (c .before .before .before .before .before .before .answer2 .given .1) in
     let l = c .before .before .list-run .ensures in
-    record { given = l .given; gives = runs (t .gives) (l .gives); answer = l .answer; buffer = l .buffer }
+    record { given = l .given; right = runs (t .gives) (l .right); answer = l .answer; buffer = l .buffer }
 
 pub list-parts-spec : {M : Type 1} → statement M
 list-parts-spec =

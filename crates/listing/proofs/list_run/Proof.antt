@@ -2,7 +2,8 @@
 use mathlib.Core.Path.{subst₂}
 use denote.Ref.{now}
 use Rattle.models.specs.declared.model.Reading.{Reading}
-use Rattle.listing.specs.Listed.{MachineListed, Answers}
+use Rattle.answers.specs.Given.{Answers}
+use Rattle.listing.specs.Listed.{MachineListed}
 use Rattle.listing.proofs.Made.{sixteen-read}
 use borrow.Author.Needs.{needs}
 use Rattle.listing.proofs.list_run.Statement.{statement}

@@ -6,7 +6,8 @@ use denote.Ref.{now}
 use lib.ListN.{replicate, length-replicate}
 use lib.Seq.{length-take-le}
 use Rattle.answers.specs.declared.Answer.{Answer}
-use Rattle.listing.specs.Listed.{answerOf, Listed, Answers}
+use Rattle.answers.specs.Given.{answerOf, Answers}
+use Rattle.listing.specs.Listed.{Listed}
 use Rattle.listing.proofs.Fits.{listing-within}
 use Rattle.show.specs.Shown.{Shown}
 use borrow.Author.Needs.{needs}
@@ -18,7 +19,7 @@ shown : (input : List ℕ) {r q : Answer} {after : List ℕ} → Answers (Listed
 shown input a e =
     record {
       given = a .given;
-      listed = a .gives;
+      listed = a .right;
       answer = sym e ∙ a .answer ∙ ap (answerOf (a .given)) (length-replicate {A = ℕ} 73728 0);
     }
 

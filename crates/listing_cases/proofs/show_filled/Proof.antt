@@ -1,17 +1,14 @@
--- `show_long` meets its contract: what it shows is within its array. Assumes nothing of its own.
+-- `show_filled` meets its contract: what it shows is within its array. Assumes nothing of its own.
 use mathlib.Core.Path.{sym}
 use native.Mathlib.Omega.{arith}
 use lib.ListN.{length-set}
 use lib.Seq.{length-take-le}
 use borrow.Author.Needs.{needs}
-use Rattle.listing_cases.proofs.show_long.Statement.{statement}
-use Rattle.listing_cases.proofs.show_long.Tie as tie
+use Rattle.listing_cases.proofs.show_filled.Statement.{statement}
+use Rattle.listing_cases.proofs.show_filled.Tie as tie
 
 slice-aggregate-copy : tie.Need-slice-aggregate-copy
 slice-aggregate-copy c = search needs
-
-slice-aggregate-copy-2 : tie.Need-slice-aggregate-copy-2
-slice-aggregate-copy-2 c = search needs
 
 copy-requires : tie.Need-copy-requires
 copy-requires c κs = search needs
@@ -34,12 +31,11 @@ show-requires c κs = search needs
 returns : tie.Need-returns
 returns c = search needs
 
-pub show-long-spec : {M : Type 1} → statement M
-show-long-spec =
+pub show-filled-spec : {M : Type 1} → statement M
+show-filled-spec =
     tie.close
     (tie.spec
     slice-aggregate-copy
-    slice-aggregate-copy-2
     copy-requires
     sub-input
     array-write-input

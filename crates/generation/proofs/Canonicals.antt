@@ -1,0 +1,138 @@
+-- What is made of two models that were read is a machine of the layout. Assumes nothing.
+use Prim.Native.Nat.{ℕ, _+_, _-_, _*_, _/_, _%_, _≤_, _<_}
+use mathlib.Core.Path.{_≡_, refl, sym, ap, subst, _∙_}
+use mathlib.Core.Bool.{Bool, true, false, _&&_, _||_}
+use mathlib.Core.Logic.{_⊎_, inl, inr}
+use mathlib.Core.List.{List, _++_}
+use native.Mathlib.Omega.{arith}
+use lib.Dec.{T, leb, eqb}
+use lib.ListN.{length, take, getD, replicate, length-append, length-replicate, getD-replicate, List·getD-append}
+use lib.Seq.{take-all, length-take-le, getD-append-add}
+use Rattle.tables.specs.Table.{choose}
+use Rattle.rule.specs.declared.way.Way.{Way}
+use Rattle.rule.specs.Pairs as rule
+use Rattle.rule.specs.Situation.{asks}
+use Rattle.rule.proofs.Choices.{differ}
+use Rattle.models.specs.declared.model.Model.{Model}
+use Rattle.models.specs.declared.model.Name.{Name}
+use Rattle.models.specs.declared.model.Verdict.{Verdict}
+use Rattle.models.specs.declared.model.Reading.{Reading}
+use Rattle.models.specs.Model as model
+use Rattle.models.specs.Model.{between, NameFormed}
+use Rattle.models.specs.Reading.{Told, over, departs, repeated, accepted}
+use Rattle.models.proofs.NamePart.{each-at}
+use Rattle.runs.specs.Call.{modelOf, Whole}
+use Rattle.mealy.specs.Runs.{Answer, taken}
+use Rattle.mealy.specs.Arrivals.{arrival}
+use Rattle.mealy.proofs.Runs.{untaken, same-refl}
+use Rattle.machine.specs.declared.machine.Machine.{Machine}
+use Rattle.machine.specs.Shim.{shim}
+use Rattle.machine.specs.Rows.{decoded}
+use Rattle.machine.specs.Generated.{wayNumber, Canonical as Word, refusing, passing, Making, named}
+use Rattle.image.specs.Layout.{at}
+use Rattle.image.specs.Barred.{nameByte}
+use Rattle.image.specs.Image.{word, NameField, AccessWord, Canonical}
+use Rattle.generation.specs.Generating.{headerFor}
+use Rattle.generation.proofs.Standing.{decoded-taken, fence-step, first-stands, Alike, halt, lead, alike}
+
+-- the bytes of a name, by the models' words and by the layout's
+four : (a b c d : Bool) → (a || b || c || d) ≡ choose a true (choose b true (choose c true d))
+four true b c d = refl
+four false true c d = refl
+four false false true d = refl
+four false false false d = refl
+
+two : (a b : Bool) → (a && b) ≡ choose a b false
+two true b = refl
+two false b = refl
+
+same-byte : (b : ℕ) → model.nameByte b ≡ nameByte b
+unfolding nameByte
+same-byte b =
+    four (between 48 57 b) (between 65 90 b) (between 97 122 b) (eqb b 95)
+    ∙ rw (two (leb 48 b) (leb b 57), two (leb 65 b) (leb b 90), two (leb 97 b) (leb b 122))
+
+is-so : (b : Bool) → T b → b ≡ true
+is-so true h = refl
+is-so false h = absurd h
+
+name-field : (n : List ℕ) → NameFormed n → NameField (n ++ replicate (16 - length n) 0)
+name-field n f =
+    record {
+      size = omega (arith, length-append n (replicate (16 - length n) 0), length-replicate {A = ℕ} (16 - length n) 0, f .few);
+      name = length n;
+      some = f .some;
+      few = f .few;
+      bytes = λ k l.
+          ap nameByte (List·getD-append n (replicate (16 - length n) 0) 0 k l)
+          ∙ sym (same-byte (getD n k 0))
+          ∙ is-so (model.nameByte (getD n k 0)) (each-at (λ (b : ℕ). T (model.nameByte b)) n 0 (f .bytes) k l);
+      zeros = λ k l m.
+          let e : length n + (k - length n) ≡ k = omega arith in
+          ap (at (n ++ replicate (16 - length n) 0)) (sym e)
+          ∙ getD-append-add n (replicate (16 - length n) 0) (k - length n) 0
+          ∙ getD-replicate {A = ℕ} (16 - length n) (k - length n) 0 0 (omega arith);
+    }
+
+-- a model that was read: its name fills a field, and it has at most sixteen fences
+pub name-read : {t : List ℕ} {r : Reading} → Told t r → r .verdict ≡ Verdict.Accepted → NameField (r .model .name .bytes)
+name-read (over l) e = differ (cc)
+name-read (departs l n k) e = differ (cc)
+name-read (repeated d k l f t s) e = differ (cc)
+name-read (accepted d l f t s) e = name-field (d .name) (f .name)
+
+pub few-read : {t : List ℕ} {r : Reading} → Told t r → r .verdict ≡ Verdict.Accepted → r .model .fences ≤ 16
+few-read (over l) e = differ (cc)
+few-read (departs l n k) e = differ (cc)
+few-read (repeated d k l f t s) e = differ (cc)
+few-read (accepted d l f t s) e = f .few
+
+-- and no more than an operation can name
+pub few-fences : (m : Model) → m .fences ≤ 16 → Whole m → length (modelOf m .fences) ≤ 16
+few-fences m few whole = omega (arith, length-take-le (m .fences) (m .tables) whole)
+
+pub all-named : (m : Model) → m .fences ≤ 16 → Whole m → named (modelOf m .fences) ≡ modelOf m .fences
+all-named m few whole = take-all 16 (modelOf m .fences) (few-fences m few whole)
+
+way-bit : (way : Way) → wayNumber way ≤ 1
+way-bit Way.Sparing = omega arith
+way-bit Way.Full = omega arith
+
+module _ (way : Way) (up target : rule.Model) (ups-few : length (up .fences) ≤ 16) (few : length (target .fences) ≤ 16) {x : Machine} {blank rows : List ℕ}
+    (made : Making (shim way up target) way (length (up .fences)) (length (target .fences)) blank x rows)
+    (first second : Name) (first-field : NameField (first .bytes)) (second-field : NameField (second .bytes)) where
+  access-word : (w : ℕ) → Word (length (target .fences)) (x .states) w → AccessWord (headerFor x first second) w
+  access-word w (refusing e) = inl (omega arith, omega arith)
+  access-word w (passing (inl l) n) = inr (inl (omega (arith, made .its-targets)), n)
+  access-word w (passing (inr e) n) = inr (inr e, n)
+
+  fence-word : (s f : ℕ) → s < x .states → f < length (up .fences) → (word rows s (4 + f) / 256 ≡ 255) × (word rows s (4 + f) % 256 < x .states)
+  fence-word s f l k =
+      look
+      (subst (Alike way up target made (decoded (word rows s (4 + f)))) (fence-step way up target _ f k)
+      (alike way up target made s (arrival (shim way up target) (made .states .streams) s)
+      (record { within = l; same = same-refl (shim way up target) _ }) (4 + f) (omega arith)))
+    where
+      look : Alike way up target made (decoded (word rows s (4 + f)))
+          (taken 255 (asks (rule.fenceTable up f) (arrival (shim way up target) (made .states .streams) s)))
+          → (word rows s (4 + f) / 256 ≡ 255) × (word rows s (4 + f) % 256 < x .states)
+      look (halt p q) = absurd (untaken (sym q))
+      look (lead o j t p q st) =
+          let d = decoded-taken (word rows s (4 + f)) o j p in
+          let e : o ≡ 255 = cc in
+          (d .0 ∙ e, omega (arith, d .1, st .within))
+
+  pub canonical : Canonical (headerFor x first second) rows
+  canonical =
+      record {
+        way = omega (arith, made .way-number, way-bit way);
+        some = first-stands way up target made .within;
+        states = made .few-states;
+        ups = omega (arith, made .its-ups);
+        targets = omega (arith, made .its-targets);
+        upstream = first-field;
+        target = second-field;
+        accesses = λ s a l k. access-word (word rows s a) (made .words s a l (omega arith));
+        fences = λ s f l k. fence-word s f l (omega (arith, made .its-ups));
+        absent = λ s f l k m. made .absent s (4 + f) l (omega (arith, made .its-ups)) (omega arith);
+      }
