@@ -49,7 +49,7 @@ fn change(image: &mut [u8], at: usize, value: u8, renewed: bool) {
 
 // One byte changed, and the image taken to be so many bytes long.
 fn changed<'a>(name: &'a [u8], n: usize, at: usize, value: u8, renewed: bool) {
-    let mut image = [0u8; 7680];
+    let mut image = images::zeros();
     images::generated(1, 1, 15, &mut image);
     change(&mut image, at, value, renewed);
     tries::image(name, show::front(&image, n));
@@ -72,24 +72,28 @@ fn cut<'a>(name: &'a [u8], n: usize) {
 }
 
 fn twice<'a>(name: &'a [u8], at: usize, value: u8, then: usize, other: u8) {
-    let mut image = [0u8; 1024];
+    let mut image = images::zeros();
     images::generated(1, 1, 15, &mut image);
     change(&mut image, at, value, true);
     change(&mut image, then, other, true);
-    tries::image(name, &image);
+    tries::image(name, show::front(&image, 1024));
 }
 
 // The old check put where zeros should stand makes the sum FFFF and the check 0000; another byte is then stored twice as the check.
+fn make_zero_check(image: &mut [u8], stored: u8) {
+    let high = show::byte_at(image, 510) as u8;
+    let low = show::byte_at(image, 511) as u8;
+    put(image, 506, high);
+    put(image, 507, low);
+    put(image, 510, stored);
+    put(image, 511, stored);
+}
+
 fn zero_check<'a>(name: &'a [u8], stored: u8) {
-    let mut image = [0u8; 1024];
+    let mut image = images::zeros();
     images::generated(1, 1, 15, &mut image);
-    let high = image[510];
-    let low = image[511];
-    image[506] = high;
-    image[507] = low;
-    image[510] = stored;
-    image[511] = stored;
-    tries::image(name, &image);
+    make_zero_check(&mut image, stored);
+    tries::image(name, show::front(&image, 1024));
 }
 
 fn lengths() {

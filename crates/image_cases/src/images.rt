@@ -1,12 +1,35 @@
 // The images that the cases are made of, each to the front of a buffer.
+ghost use mathlib.Core.Path.{_≡_};
+ghost use lib.ListN.{length};
 use answers::Answer;
 use image::machine::Header;
 
+// Room for an image of the largest size and more, of zeros. Each size of array stands in one function: a proof that holds a large array is slow.
+pub fn zeros() -> [u8; 7680]
+    ensures { λ r. ⌜ 7680 ≡ length r ⌝ }
+{
+    [0; 7680]
+}
+
+// Room for the longest output and a byte more, of a byte that tells what is kept.
+pub fn marks() -> [u8; 8193]
+    ensures { λ r. ⌜ 8193 ≡ length r ⌝ }
+{
+    [b'#'; 8193]
+}
+
+// A stream of one operation too many.
+pub fn repeated(byte: u8) -> [u8; 4097]
+    ensures { λ r. ⌜ 4097 ≡ length r ⌝ }
+{
+    [byte; 4097]
+}
+
 // Two built-in models, or their refusal.
 pub fn generated(way: u64, upstream: u64, target: u64, out: &mut [u8]) -> Answer {
-    let mut one = [0u8; 1024];
+    let mut one = zeros();
     let first = models::calls::write_built_in(upstream, &mut one);
-    let mut two = [0u8; 1024];
+    let mut two = zeros();
     let second = models::calls::write_built_in(target, &mut two);
     generation::generate(
         way,

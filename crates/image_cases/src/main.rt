@@ -23,7 +23,7 @@ fn print_image(answer: Answer, buffer: &[u8]) {
 }
 
 fn round_trip(way: u64, upstream: u64, target: u64) {
-    let mut buffer = [b'#'; 7168];
+    let mut buffer = images::marks();
     let answer = images::generated(way, upstream, target, &mut buffer);
     io::print_decimal(1, upstream);
     io::write_all(1, b" on ");
@@ -51,7 +51,7 @@ fn round_trips(way: u64) {
 }
 
 fn handmade(states: u8) {
-    let mut buffer = [b'#'; 7168];
+    let mut buffer = images::marks();
     let answer = images::handmade(states, &mut buffer);
     io::write_all(1, b"handmade, states ");
     io::print_decimal(1, states as u64);

@@ -20,7 +20,7 @@ fn generate_into_front(buffer: &mut [u8], room: usize) -> Answer {
 
 // The image of TSO on ARM has 1,024 bytes and three states.
 fn generate_into(room: usize) {
-    let mut buffer = [b'#'; 1025];
+    let mut buffer = images::marks();
     let answer = generate_into_front(&mut buffer, room);
     print_room(b"generated into ", room);
     show::print_answer(answer);
@@ -29,19 +29,19 @@ fn generate_into(room: usize) {
 }
 
 fn write_back_into(room: usize) {
-    let mut image = [0u8; 1024];
+    let mut image = images::zeros();
     images::generated(1, 1, 15, &mut image);
     print_room(b"written back into ", room);
-    tries::rewrite(&image, room);
+    tries::rewrite(show::front(&image, 1024), room);
     io::write_all(1, b"\n");
 }
 
 // The largest image has 7,168 bytes.
 fn write_largest_into(room: usize) {
-    let mut image = [0u8; 7168];
+    let mut image = images::zeros();
     images::handmade(255, &mut image);
     print_room(b"the largest written back into ", room);
-    tries::rewrite(&image, room);
+    tries::rewrite(show::front(&image, 7168), room);
     io::write_all(1, b"\n");
 }
 
@@ -74,10 +74,10 @@ fn print_verdict(verdict: Verdict) {
 
 // Three states have sixty words.
 fn read_into(rows: &mut [u16]) {
-    let mut image = [0u8; 1024];
+    let mut image = images::zeros();
     images::generated(1, 1, 15, &mut image);
     print_room(b"read into words ", rows.len());
-    let reading = image::reader::read(&image, rows);
+    let reading = image::reader::read(show::front(&image, 1024), rows);
     let verdict = reading.verdict;
     print_verdict(verdict);
     print_words(rows);

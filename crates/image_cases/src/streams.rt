@@ -5,13 +5,13 @@ use crate::tries;
 
 // Over the image of TSO on ARM in the full way, into a buffer of so many bytes.
 fn into<'a>(name: &'a [u8], start: u64, stream: &'a [u8], room: usize) {
-    let mut image = [0u8; 1024];
+    let mut image = images::zeros();
     images::generated(1, 1, 15, &mut image);
     io::write_all(1, name);
     io::write_all(1, b" from ");
     io::print_decimal(1, start);
     io::write_all(1, b":");
-    tries::run(&image, start, stream, room);
+    tries::run(show::front(&image, 1024), start, stream, room);
     io::write_all(1, b"\n");
 }
 
@@ -67,33 +67,38 @@ fn rooms() {
 
 // State 1 has a fence before every access and leads back to itself.
 fn long_streams() {
-    let loads = [b'l'; 4096];
-    into(b"4,096 loads", 0, &loads, 8192);
-    into(b"4,096 loads fill 8,192 bytes", 1, &loads, 8192);
-    into(b"4,096 loads in 8,193 bytes", 1, &loads, 8193);
-    into(b"4,096 loads in 8,191 bytes", 1, &loads, 8191);
-    let fences = [b'0'; 4096];
-    into(b"4,096 fences", 2, &fences, 0);
+    let loads = images::repeated(b'l');
+    let most = show::front(&loads, 4096);
+    into(b"4,096 loads", 0, most, 8192);
+    into(b"4,096 loads fill 8,192 bytes", 1, most, 8192);
+    into(b"4,096 loads in 8,193 bytes", 1, most, 8193);
+    into(b"4,096 loads in 8,191 bytes", 1, most, 8191);
+}
+
+fn many_fences() {
+    let fences = images::repeated(b'0');
+    let most = show::front(&fences, 4096);
+    into(b"4,096 fences", 2, most, 0);
 }
 
 // Each has a fault of a later stage too.
 fn longer_streams() {
-    let loads = [b'l'; 4097];
+    let loads = images::repeated(b'l');
     into(b"4,097 loads", 1, &loads, 0);
     into(b"4,097 loads", 3, &loads, 0);
-    let faulty = [b'x'; 4097];
+    let faulty = images::repeated(b'x');
     into(b"4,097 faulty bytes", 0, &faulty, 0);
 }
 
 fn bare(stream: &[u8], start: u64) {
-    let mut image = [0u8; 1024];
+    let mut image = images::zeros();
     images::sc_on_bare(&mut image);
     io::write_all(1, b"SC on BARE, ");
     io::write_all(1, stream);
     io::write_all(1, b" from ");
     io::print_decimal(1, start);
     io::write_all(1, b":");
-    tries::run(&image, start, stream, 8192);
+    tries::run(show::front(&image, 1024), start, stream, 8192);
     io::write_all(1, b"\n");
 }
 
@@ -113,6 +118,7 @@ pub fn all() {
     starts();
     rooms();
     long_streams();
+    many_fences();
     longer_streams();
     refused_accesses();
 }

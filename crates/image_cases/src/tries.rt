@@ -1,4 +1,5 @@
 // What is tried with an image.
+use crate::images;
 use crate::show;
 use answers::Answer;
 
@@ -39,7 +40,7 @@ fn print_same<'a>(image: &'a [u8], back: &'a [u8]) {
 // Reads an image and writes it back into a buffer of so many bytes: the answer, the header, whether the bytes written are the image, and
 // whether the rest of the buffer is as it was.
 pub fn rewrite(image: &[u8], room: usize) {
-    let mut buffer = [b'#'; 7169];
+    let mut buffer = images::marks();
     let mut header = [1u64; 4];
     let answer = rewrite_into_front(image, &mut header, &mut buffer, room);
     show::print_answer(answer);
@@ -75,7 +76,7 @@ fn print_output(output: &[u8]) {
 
 // Runs a stream into a buffer of so many bytes: the answer, the output or, of a long one, its CRC, and whether the rest is as it was.
 pub fn run<'a>(image: &'a [u8], start: u64, stream: &'a [u8], room: usize) {
-    let mut buffer = [b'#'; 8193];
+    let mut buffer = images::marks();
     let answer = run_into_front(image, start, stream, &mut buffer, room);
     show::print_answer(answer);
     let n = show::written(answer);
