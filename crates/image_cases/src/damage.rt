@@ -1,5 +1,5 @@
 // Images that are damaged: the image of TSO on ARM in the full way, which has three states, one upstream fence and one target fence, with one
-// or two bytes changed, or another length. Its state 0 begins at byte 514, its unused states at byte 586.
+// or two bytes changed, or another length. Its states begin at bytes 514, 538 and 562, its unused states at byte 586.
 ghost use Prim.Native.Nat.{_<_};
 use crate::images;
 use crate::show;
@@ -47,39 +47,53 @@ fn change(image: &mut [u8], at: usize, value: u8, renewed: bool) {
     }
 }
 
-// One byte changed, and the image taken to be so many bytes long.
-fn changed<'a>(name: &'a [u8], n: usize, at: usize, value: u8, renewed: bool) {
+fn print_change(at: usize, value: u8) {
+    io::write_all(1, b"byte ");
+    io::print_decimal(1, at as u64);
+    io::write_all(1, b" is ");
+    io::print_decimal(1, value as u64);
+}
+
+fn renewed(at: usize, value: u8) {
     let mut image = images::zeros();
     images::generated(1, 1, 15, &mut image);
-    change(&mut image, at, value, renewed);
-    tries::image(name, show::front(&image, n));
+    change(&mut image, at, value, true);
+    print_change(at, value);
+    tries::image(show::front(&image, 1024));
 }
 
-fn renewed<'a>(name: &'a [u8], at: usize, value: u8) {
-    changed(name, 1024, at, value, true);
+fn unrenewed(at: usize, value: u8) {
+    let mut image = images::zeros();
+    images::generated(1, 1, 15, &mut image);
+    change(&mut image, at, value, false);
+    print_change(at, value);
+    io::write_all(1, b", check not renewed");
+    tries::image(show::front(&image, 1024));
 }
 
-fn unrenewed<'a>(name: &'a [u8], at: usize, value: u8) {
-    changed(name, 1024, at, value, false);
-}
-
-fn longer<'a>(name: &'a [u8], n: usize, at: usize, value: u8) {
-    changed(name, n, at, value, true);
-}
-
-fn cut<'a>(name: &'a [u8], n: usize) {
-    changed(name, n, 0, 0, false);
-}
-
-fn twice<'a>(name: &'a [u8], at: usize, value: u8, then: usize, other: u8) {
+fn twice(at: usize, value: u8, then: usize, other: u8) {
     let mut image = images::zeros();
     images::generated(1, 1, 15, &mut image);
     change(&mut image, at, value, true);
     change(&mut image, then, other, true);
-    tries::image(name, show::front(&image, 1024));
+    print_change(at, value);
+    io::write_all(1, b", ");
+    print_change(then, other);
+    tries::image(show::front(&image, 1024));
 }
 
-// The old check put where zeros should stand makes the sum FFFF and the check 0000; another byte is then stored twice as the check.
+// The image and what of zeros stands behind it, so many bytes in all, with one byte changed.
+fn sized(length: usize, at: usize, value: u8) {
+    let mut image = images::zeros();
+    images::generated(1, 1, 15, &mut image);
+    change(&mut image, at, value, true);
+    io::print_decimal(1, length as u64);
+    io::write_all(1, b" bytes, ");
+    print_change(at, value);
+    tries::image(show::front(&image, length));
+}
+
+// The old check put where zeros should stand makes the sum FFFF and the check 0000; a byte is then stored twice as the check.
 fn make_zero_check(image: &mut [u8], stored: u8) {
     let high = show::byte_at(image, 510) as u8;
     let low = show::byte_at(image, 511) as u8;
@@ -89,158 +103,165 @@ fn make_zero_check(image: &mut [u8], stored: u8) {
     put(image, 511, stored);
 }
 
-fn zero_check<'a>(name: &'a [u8], stored: u8) {
+fn zero_check(stored: u8) {
     let mut image = images::zeros();
     images::generated(1, 1, 15, &mut image);
     make_zero_check(&mut image, stored);
-    tries::image(name, show::front(&image, 1024));
+    io::write_all(1, b"a check of 0000, stored are two bytes ");
+    io::print_decimal(1, stored as u64);
+    tries::image(show::front(&image, 1024));
 }
 
+// Byte 0 of the image is 0 already.
 fn lengths() {
-    cut(b"empty", 0);
-    cut(b"one byte", 1);
-    cut(b"511 bytes", 511);
-    cut(b"block 0 alone", 512);
-    cut(b"513 bytes", 513);
-    cut(b"a byte short", 1023);
-    cut(b"undamaged", 1024);
-    cut(b"a byte over", 1025);
-    cut(b"a block of zeros over", 1536);
-    longer(b"a right block over", 1536, 1025, 2);
-    cut(b"7,168 bytes", 7168);
-    cut(b"7,169 bytes", 7169);
+    sized(0, 0, 0);
+    sized(1, 0, 0);
+    sized(511, 0, 0);
+    sized(512, 0, 0);
+    sized(513, 0, 0);
+    sized(1023, 0, 0);
+    sized(1024, 0, 0);
+    sized(1025, 0, 0);
+    sized(1536, 0, 0);
+    // the third block of zeros is right, but the states want two
+    sized(1536, 1025, 2);
+    sized(7168, 0, 0);
+    sized(7169, 0, 0);
 }
 
 fn blocks() {
-    renewed(b"number of block 0", 1, 1);
-    renewed(b"number of block 0, high byte", 0, 1);
-    renewed(b"number of block 1", 513, 0);
-    renewed(b"number of block 1, high byte", 512, 1);
-    unrenewed(b"check of block 0, high byte", 510, 0);
-    unrenewed(b"check of block 0, low byte", 511, 0);
-    unrenewed(b"check of block 1, high byte", 1022, 0);
-    unrenewed(b"check of block 1, low byte", 1023, 0);
-    zero_check(b"0000 stored for 0000", 0);
-    zero_check(b"FFFF stored for 0000", 255);
+    renewed(1, 1); // the number of block 0
+    renewed(0, 1);
+    renewed(513, 0); // the number of block 1
+    renewed(512, 1);
+    unrenewed(510, 0); // the check of block 0
+    unrenewed(511, 0);
+    unrenewed(1022, 0); // the check of block 1
+    unrenewed(1023, 0);
+    zero_check(0);
+    zero_check(255);
 }
 
 // The check tells of one changed byte, whatever it is.
 fn bytes_unrenewed() {
-    unrenewed(b"form", 2, 2);
-    unrenewed(b"way", 3, 0);
-    unrenewed(b"states", 4, 4);
-    unrenewed(b"name", 7, b'X');
-    unrenewed(b"padding of block 0", 505, 1);
-    unrenewed(b"fence byte", 514, 0);
-    unrenewed(b"next state", 515, 2);
-    unrenewed(b"zeros of block 1", 1018, 1);
+    unrenewed(2, 2);
+    unrenewed(3, 0);
+    unrenewed(4, 4);
+    unrenewed(7, b'X');
+    unrenewed(505, 1);
+    unrenewed(514, 0);
+    unrenewed(515, 2);
+    unrenewed(1018, 1);
 }
 
-fn numbers() {
-    renewed(b"form 0", 2, 0);
-    renewed(b"form 2", 2, 2);
-    renewed(b"way 0", 3, 0);
-    renewed(b"way 2", 3, 2);
-    renewed(b"no states", 4, 0);
-    renewed(b"two states, the third meant", 4, 2);
-    renewed(b"a fourth state of zeros", 4, 4);
-    renewed(b"21 states, as a block holds", 4, 21);
-    renewed(b"22 states", 4, 22);
-    renewed(b"no upstream fence", 5, 0);
-    renewed(b"two upstream fences", 5, 2);
-    renewed(b"16 upstream fences", 5, 16);
-    renewed(b"17 upstream fences", 5, 17);
-    renewed(b"no target fence", 6, 0);
-    renewed(b"16 target fences", 6, 16);
-    renewed(b"17 target fences", 6, 17);
+fn form_way_and_states() {
+    renewed(2, 0);
+    renewed(2, 2);
+    renewed(3, 0);
+    renewed(3, 2);
+    renewed(4, 0);
+    renewed(4, 2); // then state 0 leads to a state that is not there
+    renewed(4, 4); // a fourth state, of zeros
+    renewed(4, 21); // as many as a block holds
+    renewed(4, 22);
 }
 
-fn upstream_name() {
-    renewed(b"upstream name empty", 7, 0);
-    renewed(b"upstream name begins with a space", 7, b' ');
-    renewed(b"upstream name ends early", 9, 0);
-    renewed(b"upstream name broken by a zero", 8, 0);
-    renewed(b"upstream name goes on after a zero", 11, b'A');
-    renewed(b"upstream name, last byte", 22, b'A');
-    renewed(b"upstream name, a byte more", 10, b'_');
+fn fence_counts() {
+    renewed(5, 0); // then state 1 has a next state for no fence
+    renewed(5, 2);
+    renewed(5, 16);
+    renewed(5, 17);
+    renewed(6, 0); // then state 1 has a fence that is not there
+    renewed(6, 16);
+    renewed(6, 17);
 }
 
-fn target_name() {
-    renewed(b"target name empty", 23, 0);
-    renewed(b"target name ends early", 25, 0);
-    renewed(b"target name broken by a zero", 24, 0);
-    renewed(b"target name, last byte", 38, b'A');
-    renewed(b"target name, a byte more", 26, b'9');
+fn names() {
+    renewed(7, 0);
+    renewed(7, b' ');
+    renewed(8, 0); // a zero within
+    renewed(9, 0); // a byte less
+    renewed(10, b'_'); // a byte more
+    renewed(11, b'A'); // behind a zero
+    renewed(22, b'A');
+    renewed(23, 0);
+    renewed(24, 0);
+    renewed(25, 0);
+    renewed(26, b'9');
+    renewed(27, b'A');
+    renewed(38, b'A');
 }
 
+// Letters, digits and underscores, each beside what is none.
 fn name_bytes() {
-    renewed(b"name byte before 0", 8, b'/');
-    renewed(b"name byte 0", 8, b'0');
-    renewed(b"name byte 9", 8, b'9');
-    renewed(b"name byte after 9", 8, b':');
-    renewed(b"name byte before A", 8, b'@');
-    renewed(b"name byte Z", 8, b'Z');
-    renewed(b"name byte after Z", 8, b'[');
-    renewed(b"name byte _", 8, b'_');
-    renewed(b"name byte before a", 8, b'`');
-    renewed(b"name byte a", 8, b'a');
-    renewed(b"name byte z", 8, b'z');
-    renewed(b"name byte after z", 8, b'{');
-    renewed(b"name byte 255", 8, 255);
+    renewed(8, b'/');
+    renewed(8, b'0');
+    renewed(8, b'9');
+    renewed(8, b':');
+    renewed(8, b'@');
+    renewed(8, b'A');
+    renewed(8, b'Z');
+    renewed(8, b'[');
+    renewed(8, b'_');
+    renewed(8, b'`');
+    renewed(8, b'a');
+    renewed(8, b'z');
+    renewed(8, b'{');
+    renewed(8, 255);
 }
 
 fn zeros() {
-    renewed(b"behind the names", 39, 1);
-    renewed(b"end of the contents", 505, 1);
-    renewed(b"first zero of block 0", 506, 1);
-    renewed(b"last zero of block 0", 509, 1);
-    renewed(b"first zero of block 1", 1018, 1);
-    renewed(b"last zero of block 1", 1021, 1);
-    renewed(b"unused state, fence byte", 586, 1);
-    renewed(b"unused state, no fence", 586, 255);
-    renewed(b"unused state, refused", 586, 254);
-    renewed(b"unused state, next state", 587, 1);
-    renewed(b"unused state, upstream fence", 594, 1);
-    renewed(b"last byte of the last unused state", 1017, 1);
+    renewed(39, 1); // behind the names
+    renewed(505, 1);
+    renewed(506, 1); // before a check
+    renewed(509, 1);
+    renewed(1018, 1);
+    renewed(1021, 1);
+    renewed(586, 1); // the first unused state
+    renewed(586, 254);
+    renewed(586, 255);
+    renewed(587, 1);
+    renewed(594, 1);
+    renewed(1017, 1); // the last
 }
 
 fn entries() {
-    renewed(b"fence 0", 514, 0);
-    renewed(b"fence 1 of one", 514, 1);
-    renewed(b"fence 253", 514, 253);
-    renewed(b"refused with a next state", 514, 254);
-    twice(b"refused without", 514, 254, 515, 0);
-    renewed(b"next state 2", 515, 2);
-    renewed(b"next state 3 of three", 515, 3);
-    renewed(b"next state 255", 515, 255);
-    renewed(b"last access, next state 3", 569, 3);
-    renewed(b"upstream fence leads to 2", 522, 2);
-    renewed(b"upstream fence leads to 3", 522, 3);
-    renewed(b"second upstream fence of one", 523, 1);
-    renewed(b"sixteenth upstream fence of one", 537, 1);
+    renewed(514, 0);
+    renewed(514, 1); // there is one target fence
+    renewed(514, 253);
+    renewed(514, 254); // refused, and yet a next state
+    twice(514, 254, 515, 0);
+    renewed(515, 2);
+    renewed(515, 3); // there are three states
+    renewed(515, 255);
+    renewed(569, 3);
+    renewed(522, 2);
+    renewed(522, 3);
+    renewed(523, 1); // there is one upstream fence
+    renewed(537, 1);
 }
 
-// The lowest place, and 10 before 11.
-fn two_faults() {
-    twice(b"two bytes", 514, 1, 39, 1);
-    twice(b"way and states", 4, 22, 3, 2);
-    twice(b"states and fences", 4, 22, 5, 17);
-    twice(b"fence and its next state", 514, 1, 515, 3);
-    twice(b"a byte and a later block", 2, 2, 513, 0);
-    twice(b"both blocks", 1, 1, 513, 0);
-    twice(b"sixteen fences and the last of them", 6, 16, 514, 15);
-    twice(b"a second upstream fence, led on", 5, 2, 523, 2);
+// The lowest place, and 10 before 11; and two changes that fit together.
+fn two_changes() {
+    twice(514, 1, 39, 1);
+    twice(4, 22, 3, 2);
+    twice(4, 22, 5, 17);
+    twice(514, 1, 515, 3);
+    twice(2, 2, 513, 0);
+    twice(1, 1, 513, 0);
+    twice(6, 16, 514, 15);
+    twice(5, 2, 523, 2);
 }
 
 pub fn all() {
     lengths();
     blocks();
     bytes_unrenewed();
-    numbers();
-    upstream_name();
-    target_name();
+    form_way_and_states();
+    fence_counts();
+    names();
     name_bytes();
     zeros();
     entries();
-    two_faults();
+    two_changes();
 }

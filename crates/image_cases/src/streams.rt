@@ -3,13 +3,25 @@ use crate::images;
 use crate::show;
 use crate::tries;
 
+// Of a long stream its length.
+fn print_stream(stream: &[u8]) {
+    if stream.len() < 32 {
+        io::write_all(1, stream);
+    } else {
+        io::print_decimal(1, stream.len() as u64);
+        io::write_all(1, b" bytes");
+    }
+}
+
 // Over the image of TSO on ARM in the full way, into a buffer of so many bytes.
-fn into<'a>(name: &'a [u8], start: u64, stream: &'a [u8], room: usize) {
+fn into(start: u64, stream: &[u8], room: usize) {
     let mut image = images::zeros();
     images::generated(1, 1, 15, &mut image);
-    io::write_all(1, name);
+    print_stream(stream);
     io::write_all(1, b" from ");
     io::print_decimal(1, start);
+    io::write_all(1, b" into ");
+    io::print_decimal(1, room as u64);
     io::write_all(1, b":");
     tries::run(show::front(&image, 1024), start, stream, room);
     io::write_all(1, b"\n");
@@ -19,7 +31,7 @@ fn into<'a>(name: &'a [u8], start: u64, stream: &'a [u8], room: usize) {
 fn from_each_state(stream: &[u8]) {
     let mut start = 0;
     while start < 4 {
-        into(stream, start, stream, 8192);
+        into(start, stream, 8192);
         start += 1;
     }
 }
@@ -49,45 +61,45 @@ fn faulty_streams() {
 }
 
 fn starts() {
-    into(b"l", 255, b"l", 8192);
-    into(b"l", 256, b"l", 8192);
-    into(b"l", 4294967296, b"l", 8192);
-    into(b"l", 18446744073709551615, b"l", 8192);
+    into(255, b"l", 8192);
+    into(256, b"l", 8192);
+    into(4294967296, b"l", 8192);
+    into(18446744073709551615, b"l", 8192);
 }
 
 fn rooms() {
-    into(b"nothing in 0", 1, b"", 0);
-    into(b"a fence alone in 0", 1, b"0", 0);
-    into(b"2 bytes in 0", 1, b"l", 0);
-    into(b"2 bytes in 1", 1, b"l", 1);
-    into(b"2 bytes in 2", 1, b"l", 2);
-    into(b"2 bytes in 3", 1, b"l", 3);
-    into(b"a fault and no room", 1, b"lx", 0);
+    into(1, b"", 0);
+    into(1, b"0", 0);
+    into(1, b"l", 0);
+    into(1, b"l", 1);
+    into(1, b"l", 2);
+    into(1, b"l", 3);
+    into(1, b"lx", 0);
 }
 
 // State 1 has a fence before every access and leads back to itself.
 fn long_streams() {
     let loads = images::repeated(b'l');
     let most = show::front(&loads, 4096);
-    into(b"4,096 loads", 0, most, 8192);
-    into(b"4,096 loads fill 8,192 bytes", 1, most, 8192);
-    into(b"4,096 loads in 8,193 bytes", 1, most, 8193);
-    into(b"4,096 loads in 8,191 bytes", 1, most, 8191);
+    into(0, most, 8192);
+    into(1, most, 8192);
+    into(1, most, 8193);
+    into(1, most, 8191);
 }
 
 fn many_fences() {
     let fences = images::repeated(b'0');
     let most = show::front(&fences, 4096);
-    into(b"4,096 fences", 2, most, 0);
+    into(2, most, 0);
 }
 
 // Each has a fault of a later stage too.
 fn longer_streams() {
     let loads = images::repeated(b'l');
-    into(b"4,097 loads", 1, &loads, 0);
-    into(b"4,097 loads", 3, &loads, 0);
+    into(1, &loads, 0);
+    into(3, &loads, 0);
     let faulty = images::repeated(b'x');
-    into(b"4,097 faulty bytes", 0, &faulty, 0);
+    into(0, &faulty, 0);
 }
 
 fn bare(stream: &[u8], start: u64) {

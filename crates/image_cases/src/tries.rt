@@ -84,9 +84,8 @@ pub fn run<'a>(image: &'a [u8], start: u64, stream: &'a [u8], room: usize) {
     show::print_kept(&buffer, n);
 }
 
-// Both.
-pub fn image<'a>(name: &'a [u8], image: &'a [u8]) {
-    io::write_all(1, name);
+// Both, behind what a line tells of the image.
+pub fn image(image: &[u8]) {
     io::write_all(1, b":");
     rewrite(image, 7168);
     io::write_all(1, b"; run");
