@@ -4,7 +4,7 @@ ghost use lib.ListN.{length};
 use answers::Answer;
 use image::machine::Header;
 
-// Room for an image of the largest size and more, of zeros. Each size of array stands in one function: a proof that holds a large array is slow.
+// Room for an image of the largest size and more, of zeros. The large arrays stand in functions of their own, so that few proofs hold one.
 pub fn zeros() -> [u8; 7680]
     ensures { λ r. ⌜ 7680 ≡ length r ⌝ }
 {
