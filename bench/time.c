@@ -2,6 +2,9 @@
  * Times the library beside plain C (plain.c) in one run on one machine, and prints the table. Arguments: the texts of A4096
  * and FULL. Both sides get the same input and a buffer that is large enough and not cleared in between; each first has to
  * give the same answer and the same bytes. A time is the least of several rounds.
+ *
+ * With a third argument, and under callgrind, it counts instead: each side makes one call, and callgrind writes down the
+ * instructions of that call alone, under the name of the side and the job. bench/run makes a table of them.
  */
 #define _POSIX_C_SOURCE 199309L
 #include "plain.h"
@@ -10,9 +13,12 @@
 #include <stdlib.h>
 #include <string.h>
 #include <time.h>
+#include <valgrind/callgrind.h>
 
 enum { ROUNDS = 15, ROOM = 8192 };
 #define ROUND_SECONDS 0.02
+
+static int counting;
 
 struct bytes {
     uint8_t at[ROOM];
@@ -196,10 +202,27 @@ static struct times timed(const struct job *j)
     return least;
 }
 
+static void count(const char *side, call *made, const struct job *j, const char *name, double parts, const char *part)
+{
+    static struct bytes out;
+    struct shim_answer a;
+    char words[200];
+    snprintf(words, sizeof words, "%s | %s | %.0f %s", side, name, parts, part);
+    CALLGRIND_ZERO_STATS;
+    made(j, &out, &a);
+    CALLGRIND_DUMP_STATS_AT(words);
+}
+
 /* A line of the table; `parts` is how many operations, situations or bytes the job has. */
 static struct times line(const char *name, double parts, const char *part, const struct job *j)
 {
-    struct times t = timed(j);
+    struct times t = {0, 0};
+    if (counting) {
+        count("library", j->library, j, name, parts, part);
+        count("plain C", j->plain, j, name, parts, part);
+        return t;
+    }
+    t = timed(j);
     printf("| %s | %.0f %s | %.0f | %.0f | %.2f | %.2f | %.2f |\n", name, parts, part, t.library, t.plain,
            t.library / t.plain, t.library / parts, t.plain / parts);
     fflush(stdout);
@@ -209,6 +232,8 @@ static struct times line(const char *name, double parts, const char *part, const
 /* How many times as much the last takes as the first. */
 static void growth(const char *name, double first, double last, struct times a, struct times b)
 {
+    if (counting)
+        return;
     printf("| %s, %.0f to %.0f: times as long | %.0f times as many | %.1f | %.1f | | | |\n", name, first, last, last / first,
            b.library / a.library, b.plain / a.plain);
 }
@@ -263,20 +288,22 @@ static void built_in_pairs(void)
            sum.plain, sum.library / sum.plain, sum.library / 512, sum.plain / 512);
 }
 
-int main(int count, char **words)
+int main(int given, char **words)
 {
     struct bytes a4096, full;
     struct job j = {library_model, plain_model_, 0, {{0}, 0}, {{0}, 0}, {{0}, 0}};
-    if (count != 3)
-        stop("usage: time A4096 FULL");
+    if (given != 3 && given != 4)
+        stop("usage: time A4096 FULL [count]");
+    counting = given == 4;
     a4096 = file(words[1]);
     full = file(words[2]);
-    printf("| job | size | library ns | plain C ns | ratio | library ns each | plain C ns each |\n");
-    printf("|---|---|---|---|---|---|---|\n");
+    if (!counting)
+        printf("| job | size | library ns | plain C ns | ratio | library ns each | plain C ns each |\n|---|---|---|---|---|---|---|\n");
     runs("TSO on ARM, full", 1, 15, SHIM_FULL, 1);
     runs("POWER on POWER, sparing", 7, 14, SHIM_SPARING, 2);
     generation(&a4096, &full);
-    built_in_pairs();
+    if (!counting)
+        built_in_pairs();
     j.first = builtin(1);
     line("model reading, TSO", (double)j.first.length, "bytes", &j);
     j.first = a4096;

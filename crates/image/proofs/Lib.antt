@@ -4,6 +4,7 @@ pub mod Lowest
 pub mod Blocks
 pub mod Names
 pub mod Places
+pub mod Zeros
 pub mod Verdicts
 pub mod Fronts
 pub mod Values

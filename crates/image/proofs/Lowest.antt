@@ -20,8 +20,11 @@ module _ (f : ℕ → Bool) (n : ℕ) where
   pub lowest-here : (k : ℕ) → lowest f 0 n ≡ lowest f k (n - k) → k < n → f k ≡ true → Found.At k ≡ lowest f 0 n
   lowest-here k h l t = sym (h ∙ first k (n - suc k) (omega arith) ∙ rw t)
 
+  pub lowest-step : (k : ℕ) → k < n → f k ≡ false → lowest f k (n - k) ≡ lowest f (k + 1) (n - (k + 1))
+  lowest-step k l t = first k (n - suc k) (omega arith) ∙ rw (t, add-one)
+
   pub lowest-on : (k : ℕ) → lowest f 0 n ≡ lowest f k (n - k) → k < n → f k ≡ false → lowest f 0 n ≡ lowest f (k + 1) (n - (k + 1))
-  lowest-on k h l t = h ∙ first k (n - suc k) (omega arith) ∙ rw (t, add-one)
+  lowest-on k h l t = h ∙ lowest-step k l t
 
   pub lowest-none : (k : ℕ) → lowest f 0 n ≡ lowest f k (n - k) → n ≤ k → Found.Nowhere ≡ lowest f 0 n
   unfolding lowest

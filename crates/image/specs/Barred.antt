@@ -4,7 +4,8 @@
 -- "In a name field the barred bytes are a first byte of zero, a nonzero byte that no name may hold, and any byte other than zero after a zero.
 -- The stored check must equal the computed one exactly."
 -- Each byte has its own rule; it may trust bytes 2 to 6, since where one of those is barred it is the lower.
-use Prim.Native.Nat.{ℕ, zero, suc, _+_, _-_, _*_, _/_, _%_, max}
+use Prim.Native.Nat.{ℕ, zero, suc, _+_, _-_, _*_, _/_, _%_, _≤_, max}
+use mathlib.Core.Path.{_≡_}
 use mathlib.Core.Bool.{Bool, true, false, not}
 use mathlib.Core.List.{List}
 use lib.Dec.{leb, ltb, eqb}
@@ -97,6 +98,11 @@ barredAs image i v (Place.FenceNext state f) = leb (nextBelow image state (ltb f
 
 unfoldable pub barred : List ℕ → ℕ → Bool
 barred image i = barredAs image i (at image i) (standsAt 1 i)
+
+-- nothing barred stands from one byte up to another, so that the lowest from the one is the lowest from the other
+pub record Skips (image : List ℕ) (from to : ℕ) : Type 0 where
+  pub forward : from ≤ to
+  pub lowest-same : lowest (barred image) from (length image - from) ≡ lowest (barred image) to (length image - to)
 
 -- by the lowest wrong block and the lowest barred byte
 abbrev pub stages : Found → Found → Verdict

@@ -5,7 +5,7 @@ ghost use lib.Dec.{leb, ltb, eqb};
 ghost use Prim.Native.Nat.{_-_, _^_, _<_, _≤_};
 ghost use lib.ListN.{length};
 ghost use Rattle.image.specs.Layout.{limit, at};
-ghost use Rattle.image.specs.Barred.{lowest, wrong, blockCount, nameByte, ended, wrongCount, barredName, barredFence, nextBelow, barred, stages, verdictOf};
+ghost use Rattle.image.specs.Barred.{lowest, wrong, blockCount, nameByte, ended, wrongCount, targetFencesOf, barredName, barredFence, nextBelow, barred, Skips, stages, verdictOf};
 use crate::checksum;
 use crate::layout;
 use crate::layout::Place;
@@ -203,15 +203,45 @@ fn is_barred(image: &[u8], i: usize) -> bool
     }
 }
 
+// The first byte from here on that is not zero, or the end.
+fn past_zeros(image: &[u8], from: usize) -> usize
+    requires { ⌜ (39 ≤ from) × (0 < targetFencesOf (now image)) ⌝ }
+    ensures { λ r. ⌜ Skips (now (image .entry)) from r ⌝ }
+{
+    let mut i = from;
+    while i < image.len() {
+        if image[i] != 0 {
+            return i;
+        }
+        i += 1;
+    }
+    i
+}
+
+// The next byte to look at closely: most bytes are zeros behind the header, and such a byte is barred nowhere if there is a target fence.
+fn next_to_examine(image: &[u8], targets: usize, from: usize) -> usize
+    requires { ⌜ targets ≡ targetFencesOf (now image) ⌝ }
+    ensures { λ r. ⌜ Skips (now (image .entry)) from r ⌝ }
+{
+    if from < 39 {
+        return from;
+    }
+    if targets == 0 {
+        return from;
+    }
+    past_zeros(image, from)
+}
+
 fn lowest_barred(image: &[u8]) -> Found
     ensures { λ r. ⌜ r ≡ lowest (barred (now (image .entry))) 0 (length (now (image .entry))) ⌝ }
 {
+    let targets = number_at(image, 6);
     let mut i = 0;
     while i < image.len() {
         if is_barred(image, i) {
             return Found::At(i);
         }
-        i += 1;
+        i = next_to_examine(image, targets, i + 1);
     }
     Found::Nowhere
 }
