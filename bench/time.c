@@ -270,6 +270,9 @@ static void generation(const struct bytes *a4096, const struct bytes *full)
         most = line("generate, A4096's first fences on FULL, full", sizes[i].situations, "situations", &j);
     }
     growth("generate", 8, 4096, least, most);
+    plain_linear = 1;
+    line("generate, A4096 on FULL, full; plain C by linear search", 4096, "situations", &j);
+    plain_linear = 0;
 }
 
 /* All built-in pairs both ways, as one sum. */
