@@ -1,4 +1,4 @@
-// Inputs worth showing. What they must print is derived with the independent model.
+// Inputs worth showing. What they must print is asked of the independent model by `tools/expect-listing-cases`.
 ghost use Prim.Native.Nat.{_<_, _≤_};
 ghost use lib.ListN.{length};
 

@@ -1,7 +1,7 @@
 // Machines: situations/states, or the refusal, of every built-in model on every other, a line for each upstream model, first the sparing way and
 // then the full way; the rows of TSO on ARM, both ways, a line for each state and letter with its fence and the next state; and the models at the
 // limits, the sparing way and the full way.
-// The stored output comes from the model in `host/model`, which shares nothing with this code: a script asked `shim-model machine` for each pair.
+// The stored output comes from the model in `host/model`, which shares nothing with this code: `tools/expect-machine-cases` asks it for each pair.
 mod limits;
 
 use machine::machine::Machine;
