@@ -29,8 +29,8 @@ use Rattle.machine.specs.declared.machine.Machine.{Machine}
 use Rattle.machine.specs.Shim.{shim}
 use Rattle.machine.specs.Rows.{decoded}
 use Rattle.machine.specs.Generated.{wayNumber, Canonical as Word, refusing, passing, Making, named}
-use Rattle.image.specs.Layout.{at}
-use Rattle.image.specs.Barred.{nameByte}
+use Rattle.layout.specs.Layout.{at}
+use Rattle.layout.specs.Barred.{nameByte}
 use Rattle.image.specs.Image.{word, NameField, AccessWord, Canonical}
 use Rattle.generation.specs.Generating.{headerFor}
 use Rattle.generation.proofs.Standing.{decoded-taken, fence-step, first-stands, Alike, halt, lead, alike}

@@ -32,8 +32,8 @@ use Rattle.image.specs.declared.machine.Header.{Header}
 use Rattle.image.specs.declared.run.Stop.{Stop}
 use Rattle.image.specs.declared.run.Move.{Move}
 use Rattle.image.specs.declared.run.Step.{Step}
-use Rattle.image.specs.Layout.{at, position}
-use Rattle.image.specs.Barred.{upstreamFencesOf}
+use Rattle.layout.specs.Layout.{at, position}
+use Rattle.layout.specs.Barred.{upstreamFencesOf}
 use Rattle.image.specs.Image.{word, imageOf, Canonical}
 use Rattle.image.specs.Run.{letterOf, accessStep, stepAs, stepAt, Ran, ended, stopped, behind, resumed, ran, refusalOf}
 use Rattle.image.proofs.Canonicals.{ups-image, fence-image, next-image, onward-image}

@@ -29,10 +29,10 @@ use Rattle.machine.specs.Shim.{shim, shimOf}
 use Rattle.machine.specs.Generated.{Making, Built, Generated}
 use Rattle.machine.specs.Counted.{ManySituations, ManyStates}
 use Rattle.machine.proofs.Theorems.{modelOf as namedModel, refused-8-exactly-when, refused-9-exactly-when}
-use Rattle.image.specs.declared.verdict.Verdict as image-verdict
+use Rattle.layout.specs.declared.verdict.Verdict as image-verdict
 use Rattle.image.specs.declared.machine.Header.{Header}
-use Rattle.image.specs.Layout.{blocksFor}
-use Rattle.image.specs.Barred.{statesOf, verdictOf}
+use Rattle.layout.specs.Layout.{blocksFor}
+use Rattle.layout.specs.Barred.{statesOf, verdictOf}
 use Rattle.image.specs.Image.{stride, imageOf, headerOf, rowsOf, Canonical}
 use Rattle.image.specs.Run as over
 use Rattle.image.specs.Run.{ran, runOver, outcomeOf}

@@ -11,19 +11,19 @@ use lib.ListN.{length}
 use borrow.Author.Tests.{lt-ltb, le-ltb, le-leb, eq-eqb, ne-eqb, ltb-false, leb-false, eqb-true, eqb-false}
 use Rattle.tables.specs.Table.{choose}
 use Rattle.answers.specs.declared.Refusal.{Refusal}
-use Rattle.image.specs.declared.layout.Place.{Place}
-use Rattle.image.specs.declared.verdict.Found.{Found}
-use Rattle.image.specs.declared.verdict.Verdict.{Verdict}
+use Rattle.layout.specs.declared.places.Place.{Place}
+use Rattle.layout.specs.declared.verdict.Found.{Found}
+use Rattle.layout.specs.declared.verdict.Verdict.{Verdict}
 use Rattle.image.specs.declared.machine.Header.{Header}
-use Rattle.image.specs.Checksum.{twoBytes}
-use Rattle.image.specs.Layout.{limit, blocksFor, at, standsAt, position}
-use Rattle.image.specs.Barred.{lowest, wrong, checkOf, blockCount, wrongCount, barredFence, nextBelow, statesOf, upstreamFencesOf, targetFencesOf, barredAs, barred, stages, verdictOf}
+use Rattle.layout.specs.Checksum.{twoBytes}
+use Rattle.layout.specs.Layout.{limit, blocksFor, at, standsAt, position}
+use Rattle.layout.specs.Barred.{lowest, wrong, checkOf, blockCount, wrongCount, barredFence, nextBelow, statesOf, upstreamFencesOf, targetFencesOf, barredAs, barred, stages, verdictOf}
 use Rattle.image.specs.Image.{listed, stride, word, half, used, valueAs, valueAt, byteAt, sizeOf, imageOf, headerOf, entryWord, rowsOf, AccessWord, Canonical}
 use Rattle.image.proofs.Inverse.{true-false, neither, chosen, equal, nowhere}
 use Rattle.image.proofs.Fronts.{length-listed, at-listed, is-listed}
-use Rattle.image.proofs.Places.{Stands, stands, fence-at, next-at, onward-at, upstream-at, target-at, within-image}
+use Rattle.layout.proofs.Standing.{Stands, stands, fence-at, next-at, onward-at, upstream-at, target-at, within-image}
 use Rattle.image.proofs.NameFields.{good-field}
-use Rattle.image.proofs.Sums.{check-same}
+use Rattle.layout.proofs.Sums.{check-same}
 use Rattle.image.proofs.Sealing.{byte-content, written-check, byte-high, byte-low}
 
 -- the stages of an acceptance

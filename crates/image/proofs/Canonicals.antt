@@ -10,17 +10,17 @@ use lib.Dec.{leb, ltb, eqb}
 use lib.ListN.{length, take}
 use borrow.Author.Tests.{lt-ltb, le-ltb, le-leb, lt-leb, eq-eqb, ne-eqb}
 use Rattle.tables.specs.Table.{choose}
-use Rattle.image.specs.declared.layout.Place.{Place}
-use Rattle.image.specs.declared.verdict.Verdict.{Verdict}
+use Rattle.layout.specs.declared.places.Place.{Place}
+use Rattle.layout.specs.declared.verdict.Verdict.{Verdict}
 use Rattle.image.specs.declared.machine.Header.{Header}
-use Rattle.image.specs.Checksum.{twoBytes}
-use Rattle.image.specs.Layout.{limit, blocksFor, at, standsAt, position}
-use Rattle.image.specs.Barred.{wrong, checkOf, blockCount, wrongCount, barredName, barredFence, nextBelow, statesOf, upstreamFencesOf, targetFencesOf, barredAs, barred, verdictOf}
+use Rattle.layout.specs.Checksum.{twoBytes}
+use Rattle.layout.specs.Layout.{limit, blocksFor, at, standsAt, position}
+use Rattle.layout.specs.Barred.{wrong, checkOf, blockCount, wrongCount, barredName, barredFence, nextBelow, statesOf, upstreamFencesOf, targetFencesOf, barredAs, barred, verdictOf}
 use Rattle.image.specs.Image.{listed, stride, word, half, used, valueAs, valueAt, byteAt, sizeOf, imageOf, headerOf, entryWord, rowsOf, AccessWord, Canonical, Front}
 use Rattle.image.proofs.Inverse.{all-nowhere}
 use Rattle.image.proofs.Fronts.{length-listed, at-listed, is-listed, front-whole}
-use Rattle.image.proofs.Sums.{check-same}
-use Rattle.image.proofs.Places.{Stands, stands, number-at, fence-at, next-at, onward-at, upstream-at, target-at, within-image, entry-inside}
+use Rattle.layout.proofs.Sums.{check-same}
+use Rattle.layout.proofs.Standing.{Stands, stands, number-at, fence-at, next-at, onward-at, upstream-at, target-at, within-image, entry-inside}
 use Rattle.image.proofs.Sealing.{byte-content, written-check, byte-high, byte-low}
 use Rattle.image.proofs.NameFields.{field-good}
 

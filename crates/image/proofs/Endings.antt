@@ -11,9 +11,9 @@ use Rattle.answers.specs.declared.Answer.{Answer}
 use Rattle.image.specs.declared.run.Stop.{Stop}
 use Rattle.image.specs.declared.run.Progress.{Progress}
 use Rattle.image.specs.declared.run.Ending.{Ending}
-use Rattle.image.specs.declared.verdict.Verdict.{Verdict}
-use Rattle.image.specs.Layout.{at}
-use Rattle.image.specs.Barred.{verdictOf}
+use Rattle.layout.specs.declared.verdict.Verdict.{Verdict}
+use Rattle.layout.specs.Layout.{at}
+use Rattle.layout.specs.Barred.{verdictOf}
 use Rattle.answers.specs.Given.{Given, refuses, gives, answerOf, bufferOf}
 use Rattle.image.specs.Run.{Ran, ended, stopped, ran, refusalOf, outcomeOf, streamLimit, runAs, runOver, Ends}
 

@@ -3,8 +3,8 @@ use Prim.Native.Nat.{ℕ, _+_, _-_, _*_, _<_, _≤_}
 use mathlib.Core.Path.{_≡_, refl, sym, ap, ap₂, _∙_}
 use mathlib.Core.List.{List}
 use borrow.Author.Tests.{lt-ltb, le-ltb}
-use Rattle.image.specs.Checksum.{twoBytes}
-use Rattle.image.specs.Layout.{at, position}
+use Rattle.layout.specs.Checksum.{twoBytes}
+use Rattle.layout.specs.Layout.{at, position}
 use Rattle.image.specs.Image.{entryWord}
 
 module _ (image : List ℕ) (s a : ℕ) where

@@ -9,7 +9,7 @@ use lib.ListN.{length, getD, set, take, drop, length-append, length-set, length-
 use lib.Seq.{getD-set-same, getD-set-other, getD-at, getD-append-add, getD-drop, ext-getD, getD-take, length-take-le}
 use borrow.Author.Tests.{le-leb}
 use Rattle.answers.specs.Written.{written}
-use Rattle.image.specs.Layout.{at}
+use Rattle.layout.specs.Layout.{at}
 use Rattle.image.specs.Image.{listed, Front, Filled}
 
 pub length-listed : (n : ℕ) (f : ℕ → ℕ) → length (listed n f) ≡ n

@@ -7,8 +7,8 @@ use native.Mathlib.Omega.{arith}
 use lib.Dec.{leb, eqb}
 use borrow.Author.Tests.{eqb-true, not-false}
 use Rattle.tables.specs.Table.{choose}
-use Rattle.image.specs.declared.verdict.Found.{Found}
-use Rattle.image.specs.Barred.{lowest}
+use Rattle.layout.specs.declared.verdict.Found.{Found}
+use Rattle.layout.specs.Barred.{lowest}
 
 abbrev Is : Bool → Type 0
 Is true = Unit {0}

@@ -1,11 +1,3 @@
-pub mod Tests
-pub mod Sums
-pub mod Lowest
-pub mod Blocks
-pub mod Names
-pub mod Places
-pub mod Zeros
-pub mod Verdicts
 pub mod Fronts
 pub mod Values
 pub mod Sealing

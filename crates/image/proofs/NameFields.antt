@@ -9,8 +9,8 @@ use lib.Dec.{eqb}
 use lib.ListN.{length}
 use borrow.Author.Tests.{eq-eqb, ne-eqb}
 use Rattle.tables.specs.Table.{choose}
-use Rattle.image.specs.Layout.{at}
-use Rattle.image.specs.Barred.{nameByte, ended, barredName}
+use Rattle.layout.specs.Layout.{at}
+use Rattle.layout.specs.Barred.{nameByte, ended, barredName}
 use Rattle.image.specs.Image.{listed, NameField}
 use Rattle.image.proofs.Inverse.{true-false, chosen}
 use Rattle.image.proofs.Fronts.{length-listed, at-listed}

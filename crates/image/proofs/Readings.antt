@@ -7,11 +7,11 @@ use lib.ListN.{length}
 use borrow.Author.Tests.{le-leb, lt-leb}
 use Rattle.answers.specs.Written.{written}
 use Rattle.answers.specs.declared.Refusal.{Refusal}
-use Rattle.image.specs.declared.verdict.Verdict.{Verdict}
+use Rattle.layout.specs.declared.verdict.Verdict.{Verdict}
 use Rattle.image.specs.declared.machine.Header.{Header}
 use Rattle.image.specs.declared.machine.Reading.{Reading}
-use Rattle.image.specs.Layout.{at}
-use Rattle.image.specs.Barred.{statesOf, verdictOf}
+use Rattle.layout.specs.Layout.{at}
+use Rattle.layout.specs.Barred.{statesOf, verdictOf}
 use Rattle.image.specs.Image.{listed, stride, headerOf, entryWord, rowsOf, refusedReading, readAs, rowsAs, readingOf, rowsAfter, Filled}
 use Rattle.image.proofs.Fronts.{length-listed, filled-to, filled-whole}
 

@@ -7,11 +7,11 @@ use native.Mathlib.Omega.{arith}
 use lib.ListN.{length, set, take, length-set}
 use borrow.Author.Tests.{lt-ltb, le-ltb, eq-eqb, ne-eqb}
 use Rattle.image.specs.declared.machine.Header.{Header}
-use Rattle.image.specs.Checksum.{checksum}
-use Rattle.image.specs.Layout.{blocksFor, at}
-use Rattle.image.specs.Barred.{checkOf}
+use Rattle.layout.specs.Checksum.{checksum}
+use Rattle.layout.specs.Layout.{blocksFor, at}
+use Rattle.layout.specs.Barred.{checkOf}
 use Rattle.image.specs.Image.{half, valueAt, byteAt, imageOf, sizeOf, sealed, Front}
-use Rattle.image.proofs.Sums.{check-same}
+use Rattle.layout.proofs.Sums.{check-same}
 use Rattle.image.proofs.Fronts.{front-more, front-whole}
 
 module _ (h : Header) (rows : List ℕ) where

@@ -11,7 +11,7 @@ use Rattle.rule.specs.Operation.{byteIs, fenceByte}
 use Rattle.image.specs.declared.run.Stop.{Stop}
 use Rattle.image.specs.declared.run.Move.{Move}
 use Rattle.image.specs.declared.run.Step.{Step}
-use Rattle.image.specs.Layout.{at, position}
+use Rattle.layout.specs.Layout.{at, position}
 use Rattle.image.specs.Run.{letterOf, accessStep, stepAs, stepAt, Small}
 
 module _ (fence next : ℕ) (small : next < 256) where

@@ -3,10 +3,10 @@ use Prim.Native.Nat.{ℕ, _*_, _<_, _≤_}
 use mathlib.Core.Path.{_≡_, refl, sym, _∙_}
 use mathlib.Core.List.{List, _++_}
 use lib.ListN.{length, take}
-use Rattle.image.specs.declared.verdict.Verdict.{Verdict}
+use Rattle.layout.specs.declared.verdict.Verdict.{Verdict}
 use Rattle.image.specs.declared.machine.Header.{Header}
-use Rattle.image.specs.Layout.{blocksFor, at}
-use Rattle.image.specs.Barred.{verdictOf}
+use Rattle.layout.specs.Layout.{blocksFor, at}
+use Rattle.layout.specs.Barred.{verdictOf}
 use Rattle.image.specs.Image.{stride, imageOf, headerOf, rowsOf, Canonical}
 use Rattle.image.specs.Run.{Ran, ran}
 use Rattle.image.proofs.Accepted.{accepted-right, image-same, canonical-read}

@@ -4,9 +4,9 @@ use mathlib.Core.Path.{_≡_, refl, sym, ap, ap₂, _∙_}
 use mathlib.Core.List.{List}
 use native.Mathlib.Omega.{arith}
 use borrow.Author.Tests.{lt-ltb, le-ltb, eq-eqb, ne-eqb}
-use Rattle.image.specs.declared.layout.Place.{Place}
+use Rattle.layout.specs.declared.places.Place.{Place}
 use Rattle.image.specs.declared.machine.Header.{Header}
-use Rattle.image.specs.Layout.{at, standsAt}
+use Rattle.layout.specs.Layout.{at, standsAt}
 use Rattle.image.specs.Image.{used, valueAs, valueAt}
 
 module _ (h : Header) (s n v w : ℕ) (states : n ≡ h .states) where

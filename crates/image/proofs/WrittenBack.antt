@@ -9,11 +9,11 @@ use borrow.Author.Tests.{le-leb}
 use Rattle.answers.specs.Written.{written, writing}
 use Rattle.answers.specs.declared.Refusal.{Refusal}
 use Rattle.answers.specs.declared.Answer.{Answer}
-use Rattle.image.specs.declared.verdict.Verdict.{Verdict}
+use Rattle.layout.specs.declared.verdict.Verdict.{Verdict}
 use Rattle.image.specs.declared.machine.Header.{Header}
 use Rattle.image.specs.declared.machine.Reading.{Reading}
-use Rattle.image.specs.Layout.{at}
-use Rattle.image.specs.Barred.{statesOf, upstreamFencesOf, targetFencesOf, verdictOf}
+use Rattle.layout.specs.Layout.{at}
+use Rattle.layout.specs.Barred.{statesOf, upstreamFencesOf, targetFencesOf, verdictOf}
 use Rattle.image.specs.Image.{stride, imageOf, headerOf, rowsOf, readAs, rowsAs, readingOf, rowsAfter}
 use Rattle.answers.specs.Given.{refuses, gives}
 use Rattle.image.specs.Calls.{backAs, writtenBack, headerAs}

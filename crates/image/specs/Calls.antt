@@ -4,9 +4,9 @@
 use Prim.Native.Nat.{ℕ}
 use mathlib.Core.List.{List, [], _∷_}
 use Rattle.answers.specs.declared.Answer.{Answer}
-use Rattle.image.specs.declared.verdict.Verdict.{Verdict}
-use Rattle.image.specs.Layout.{at}
-use Rattle.image.specs.Barred.{statesOf, upstreamFencesOf, targetFencesOf, verdictOf}
+use Rattle.layout.specs.declared.verdict.Verdict.{Verdict}
+use Rattle.layout.specs.Layout.{at}
+use Rattle.layout.specs.Barred.{statesOf, upstreamFencesOf, targetFencesOf, verdictOf}
 use Rattle.answers.specs.Given.{Given, refuses, gives}
 
 -- what is written back is the image itself

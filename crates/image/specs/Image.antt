@@ -12,13 +12,13 @@ use lib.ListN.{length, set, replicate}
 use Rattle.answers.specs.Written.{written}
 use Rattle.answers.specs.declared.Refusal.{Refusal}
 use Rattle.tables.specs.Table.{choose}
-use Rattle.image.specs.declared.layout.Place.{Place}
-use Rattle.image.specs.declared.verdict.Verdict.{Verdict}
+use Rattle.layout.specs.declared.places.Place.{Place}
+use Rattle.layout.specs.declared.verdict.Verdict.{Verdict}
 use Rattle.image.specs.declared.machine.Header.{Header}
 use Rattle.image.specs.declared.machine.Reading.{Reading}
-use Rattle.image.specs.Checksum.{twoBytes, checksum}
-use Rattle.image.specs.Layout.{accesses, blocksFor, at, standsAt, position}
-use Rattle.image.specs.Barred.{checkOf, nameByte, statesOf, upstreamFencesOf, targetFencesOf, verdictOf}
+use Rattle.layout.specs.Checksum.{twoBytes, checksum}
+use Rattle.layout.specs.Layout.{accesses, blocksFor, at, standsAt, position}
+use Rattle.layout.specs.Barred.{checkOf, nameByte, statesOf, upstreamFencesOf, targetFencesOf, verdictOf}
 
 -- the first n values of f
 unfoldable pub listed : ℕ → (ℕ → ℕ) → List ℕ

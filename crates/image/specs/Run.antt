@@ -22,9 +22,9 @@ use Rattle.image.specs.declared.run.Move.{Move}
 use Rattle.image.specs.declared.run.Step.{Step}
 use Rattle.image.specs.declared.run.Progress.{Progress}
 use Rattle.image.specs.declared.run.Ending.{Ending}
-use Rattle.image.specs.declared.verdict.Verdict.{Verdict}
-use Rattle.image.specs.Layout.{accesses, at, position}
-use Rattle.image.specs.Barred.{statesOf, upstreamFencesOf, verdictOf}
+use Rattle.layout.specs.declared.verdict.Verdict.{Verdict}
+use Rattle.layout.specs.Layout.{accesses, at, position}
+use Rattle.layout.specs.Barred.{statesOf, upstreamFencesOf, verdictOf}
 
 -- the place of an access among the letters
 abbrev pub letterOf : Kind → ℕ

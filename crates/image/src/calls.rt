@@ -2,14 +2,14 @@
 ghost use mathlib.Core.Path.{_≡_};
 ghost use lib.ListN.{length};
 ghost use Rattle.answers.specs.Given.{answerOf, bufferOf};
-ghost use Rattle.image.specs.Layout.{at};
+ghost use Rattle.layout.specs.Layout.{at};
 ghost use Rattle.image.specs.Calls.{writtenBack, headerAs};
-use crate::checksum;
 use crate::reader;
-use crate::verdict;
-use crate::verdict::Verdict;
 use crate::writer;
 use answers::Answer;
+use layout::checksum;
+use layout::verdict;
+use layout::verdict::Verdict;
 
 fn write_back(image: &[u8], out: &mut [u8]) -> Answer
     ensures answer { λ r. ⌜ r ≡ answerOf (writtenBack (now (image .entry))) (length (now (out .entry))) ⌝ }

@@ -1,9 +1,6 @@
 // The machine image: blocks of 512 bytes, read, written and run over.
 pub mod calls;
-mod checksum;
-mod layout;
 pub mod machine;
 pub mod reader;
 pub mod run;
-pub mod verdict;
 pub mod writer;

@@ -2,14 +2,14 @@
 ghost use mathlib.Core.Path.{_≡_};
 ghost use Prim.Native.Nat.{ℕ, _+_, _*_, _/_, _%_, _^_, _<_, _≤_};
 ghost use lib.ListN.{length};
-ghost use Rattle.image.specs.Layout.{at, position};
-ghost use Rattle.image.specs.Barred.{statesOf};
+ghost use Rattle.layout.specs.Layout.{at, position};
+ghost use Rattle.layout.specs.Barred.{statesOf};
 ghost use Rattle.image.specs.Image.{listed, stride, headerOf, entryWord, rowsOf, refusedReading, readAs, rowsAs, readingOf, rowsAfter, Front, Filled};
 use crate::machine::Header;
 use crate::machine::Reading;
-use crate::verdict;
-use crate::verdict::Verdict;
 use answers::Refusal;
+use layout::verdict;
+use layout::verdict::Verdict;
 
 // Where byte o of a state's entry stands.
 pub(crate) fn position(state: usize, o: usize) -> usize

@@ -3,13 +3,13 @@ ghost use mathlib.Core.Path.{_≡_};
 ghost use Prim.Native.Nat.{ℕ, _+_, _*_, _/_, _%_, _^_, _<_, _≤_};
 ghost use lib.ListN.{length};
 ghost use Rattle.answers.specs.Written.{written, writing};
-ghost use Rattle.image.specs.Layout.{blocksFor};
+ghost use Rattle.layout.specs.Layout.{blocksFor};
 ghost use Rattle.image.specs.Image.{word, half, used, sizeOf, valueAt, byteAt, imageOf, Front, sealed};
-use crate::checksum;
-use crate::layout;
-use crate::layout::Place;
 use crate::machine::Header;
 use answers::Answer;
+use layout::checksum;
+use layout::places;
+use layout::places::Place;
 
 fn word_at(rows: &[u16], state: usize, letter: usize) -> u16
     requires { ⌜ (state < 2 ^ 32) × (letter < 2 ^ 32) ⌝ }
@@ -56,7 +56,7 @@ fn value_at(h: Header, rows: &[u16], i: usize) -> u8
     requires { ⌜ i < 2 ^ 24 ⌝ }
     ensures { λ r. ⌜ r ≡ valueAt h (now (rows .entry)) i ⌝ }
 {
-    let place = layout::stands_at(i);
+    let place = places::stands_at(i);
     match place {
         Place::Number => half(i, i / 512),
         Place::Form => 1,
@@ -92,7 +92,7 @@ fn seal(image: &mut [u8], b: usize)
     requires { ⌜ (b < 14) × (length (now image) ≡ 7168) ⌝ }
     ensures { λ _. ⌜ now (image .exit) ≡ sealed (now (image .entry)) b ⌝ }
 {
-    let check = checksum::check(image, 512 * b);
+    let check = checksum::block_check(image, b);
     image[512 * b + 510] = (check / 256) as u8;
     image[512 * b + 511] = (check % 256) as u8;
 }

@@ -3,7 +3,7 @@ use crate::images;
 use crate::show;
 use crate::tries;
 use answers::Answer;
-use image::verdict::Verdict;
+use layout::verdict::Verdict;
 
 fn print_room(what: &[u8], room: usize) {
     io::write_all(1, what);

@@ -5,7 +5,7 @@ use Rattle.image.proofs.reader.entry_word.Tie as tie
 use Rattle.image.proofs.reader.entry_word.Reads as reads
 use Rattle.image.proofs.reader.entry_word.Lts as lts
 use Rattle.image.proofs.reader.position.Reads as position-reads
-use Rattle.image.proofs.verdict.number_at.Reads as number-at-reads
+use Rattle.layout.proofs.verdict.number_at.Reads as number-at-reads
 
 -- src/reader.rt:28:63
 mul-position : tie.Need-mul-position

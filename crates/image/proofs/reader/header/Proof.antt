@@ -5,7 +5,7 @@ use Rattle.image.proofs.reader.header.Tie as tie
 use Rattle.image.proofs.reader.header.Reads as reads
 use Rattle.image.proofs.reader.header.Lts as lts
 use Rattle.image.proofs.reader.name_at.Reads as name-at-reads
-use Rattle.image.proofs.verdict.byte_at.Reads as byte-at-reads
+use Rattle.layout.proofs.verdict.byte_at.Reads as byte-at-reads
 
 -- src/reader.rt:57:14
 byte-at-requires : tie.Need-byte-at-requires

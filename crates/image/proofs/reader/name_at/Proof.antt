@@ -3,14 +3,14 @@ use Prim.Native.Nat.{ℕ, _+_, _-_, _≤_}
 use mathlib.Core.Path.{_≡_, refl}
 use lib.ListN.{length, length-set}
 use native.Mathlib.Omega.{arith}
-use Rattle.image.specs.Layout.{at}
+use Rattle.layout.specs.Layout.{at}
 use Rattle.image.specs.Image.{Front}
 use Rattle.image.proofs.Fronts.{front-none, front-more, front-to, front-all}
 use Rattle.image.proofs.reader.name_at.Statement.{statement}
 use Rattle.image.proofs.reader.name_at.Tie as tie
 use Rattle.image.proofs.reader.name_at.Reads as reads
 use Rattle.image.proofs.reader.name_at.Lts as lts
-use Rattle.image.proofs.verdict.byte_at.Reads as byte-at-reads
+use Rattle.layout.proofs.verdict.byte_at.Reads as byte-at-reads
 
 abbrev Inv-loop : tie.InvT-loop
 Inv-loop image from name₀ k₀ name k = (k ≤ 16) × (length name ≡ 16) × Front (λ (j : ℕ). at image (from + j)) k name

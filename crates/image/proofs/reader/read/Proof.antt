@@ -8,7 +8,7 @@ use Rattle.image.proofs.reader.read.Reads as reads
 use Rattle.image.proofs.reader.read.Lts as lts
 use Rattle.image.proofs.reader.read_accepted.Reads as read-accepted-reads
 use Rattle.image.proofs.reader.refused.Reads as refused-reads
-use Rattle.image.proofs.verdict.examine.Reads as examine-reads
+use Rattle.layout.proofs.verdict.examine.Reads as examine-reads
 
 -- src/reader.rt:115:9
 examine-requires : tie.Need-examine-requires

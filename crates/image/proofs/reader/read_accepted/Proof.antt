@@ -9,7 +9,7 @@ use Rattle.image.proofs.reader.read_accepted.Lts as lts
 use Rattle.image.proofs.reader.fill_rows.Reads as fill-rows-reads
 use Rattle.image.proofs.reader.header.Reads as header-reads
 use Rattle.image.proofs.reader.refused.Reads as refused-reads
-use Rattle.image.proofs.verdict.number_at.Reads as number-at-reads
+use Rattle.layout.proofs.verdict.number_at.Reads as number-at-reads
 
 -- src/reader.rt:99:17
 number-at-requires : tie.Need-number-at-requires

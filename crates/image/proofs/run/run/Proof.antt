@@ -7,7 +7,7 @@ use Rattle.image.proofs.run.run.Tie as tie
 use Rattle.image.proofs.run.run.Reads as reads
 use Rattle.image.proofs.run.run.Lts as lts
 use Rattle.image.proofs.run.run_accepted.Reads as run-accepted-reads
-use Rattle.image.proofs.verdict.examine.Reads as examine-reads
+use Rattle.layout.proofs.verdict.examine.Reads as examine-reads
 
 -- src/run.rt:223:9
 examine-requires : tie.Need-examine-requires

@@ -6,7 +6,7 @@ use Rattle.image.proofs.run.run_accepted.Tie as tie
 use Rattle.image.proofs.run.run_accepted.Reads as reads
 use Rattle.image.proofs.run.run_accepted.Lts as lts
 use Rattle.image.proofs.run.run_from.Reads as run-from-reads
-use Rattle.image.proofs.verdict.number_at.Reads as number-at-reads
+use Rattle.layout.proofs.verdict.number_at.Reads as number-at-reads
 
 -- src/run.rt:208:9
 number-at-requires : tie.Need-number-at-requires

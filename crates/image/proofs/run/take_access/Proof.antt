@@ -8,7 +8,7 @@ use Rattle.image.proofs.run.take_access.Lts as lts
 use Rattle.image.proofs.reader.position.Reads as position-reads
 use Rattle.image.proofs.run.access_step.Reads as access-step-reads
 use Rattle.image.proofs.run.letter_of.Reads as letter-of-reads
-use Rattle.image.proofs.verdict.number_at.Reads as number-at-reads
+use Rattle.layout.proofs.verdict.number_at.Reads as number-at-reads
 
 -- src/run.rt:69:42
 letter-of-requires : tie.Need-letter-of-requires

@@ -6,7 +6,7 @@ use Rattle.image.proofs.run.take_fence.Tie as tie
 use Rattle.image.proofs.run.take_fence.Reads as reads
 use Rattle.image.proofs.run.take_fence.Lts as lts
 use Rattle.image.proofs.reader.position.Reads as position-reads
-use Rattle.image.proofs.verdict.number_at.Reads as number-at-reads
+use Rattle.layout.proofs.verdict.number_at.Reads as number-at-reads
 
 -- src/run.rt:79:8
 number-at-requires : tie.Need-number-at-requires

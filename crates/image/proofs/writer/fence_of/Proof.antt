@@ -6,7 +6,7 @@ use Rattle.image.proofs.writer.fence_of.Statement.{statement}
 use Rattle.image.proofs.writer.fence_of.Tie as tie
 use Rattle.image.proofs.writer.fence_of.Reads as reads
 use Rattle.image.proofs.writer.fence_of.Lts as lts
-use Rattle.image.proofs.checksum.wide.Reads as wide-reads
+use Rattle.layout.proofs.checksum.wide.Reads as wide-reads
 use Rattle.image.proofs.writer.word_at.Reads as word-at-reads
 
 -- src/writer.rt:38:16

@@ -4,7 +4,7 @@ use Prim.Native.Nat.{_*_, _-_, _≤_}
 use mathlib.Core.Path.{_≡_, refl}
 use lib.ListN.{length}
 use native.Mathlib.Omega.{arith}
-use Rattle.image.specs.Layout.{blocksFor}
+use Rattle.layout.specs.Layout.{blocksFor}
 use Rattle.image.specs.Image.{byteAt, Front}
 use Rattle.image.proofs.Fronts.{front-to, front-none}
 use Rattle.image.proofs.writer.fill.Statement.{statement}

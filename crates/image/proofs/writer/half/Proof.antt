@@ -1,5 +1,5 @@
 use Rattle.image.specs.Image.{half}
-use Rattle.image.proofs.Tests.{tests}
+use Rattle.layout.proofs.Tests.{tests}
 use borrow.Author.Needs.{needs}
 use Rattle.image.proofs.writer.half.Statement.{statement}
 use Rattle.image.proofs.writer.half.Tie as tie

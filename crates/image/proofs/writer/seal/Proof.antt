@@ -1,24 +1,18 @@
 use lib.ListN.{length-set}
 use native.Mathlib.Omega.{arith}
-use mathlib.Core.Path.{ap, sym}
+use mathlib.Core.Path.{ap, sym, _∙_}
 use Prim.Native.Nat.{ℕ, _+_, _*_, _/_, _%_}
 use lib.ListN.{set}
 use Rattle.image.specs.Image.{sealed}
-use Rattle.image.specs.Barred.{checkOf}
 use borrow.Author.Needs.{needs}
 use Rattle.image.proofs.writer.seal.Statement.{statement}
 use Rattle.image.proofs.writer.seal.Tie as tie
 use Rattle.image.proofs.writer.seal.Reads as reads
 use Rattle.image.proofs.writer.seal.Lts as lts
-use Rattle.image.proofs.checksum.check.Reads as check-reads
+use Rattle.layout.proofs.Blocks.{check-there}
 
--- src/writer.rt:95:40
-mul-check : tie.Need-mul-check
-mul-check c = search needs
-
--- src/writer.rt:95:9
-check-requires : tie.Need-check-requires
-check-requires c κs = search needs
+block-check-requires : tie.Need-block-check-requires
+block-check-requires c κs = search needs
 
 -- src/writer.rt:96:28
 cast-image : tie.Need-cast-image
@@ -58,15 +52,14 @@ same-length c = search needs
 
 -- src/writer.rt:91:1
 returns : tie.Need-returns
-unfolding sealed checkOf
-returns c = rw (c .check .ensures .0)
+unfolding sealed
+returns c = rw (c .block-check .ensures .0 ∙ sym (check-there _ _ (omega arith)))
 
 pub seal-spec : {M : Type 1} → statement M
 seal-spec =
     tie.close
     (tie.spec
-    mul-check
-    check-requires
+    block-check-requires
     cast-image
     mul-image
     add-image

@@ -1,5 +1,5 @@
 use mathlib.Core.Path.{refl}
-use Rattle.image.proofs.Places.{stands-at}
+use Rattle.layout.proofs.Standing.{stands-at}
 use Rattle.image.proofs.Values.{value-as}
 use native.Mathlib.Omega.{arith}
 use borrow.Author.Needs.{needs}
@@ -7,7 +7,7 @@ use Rattle.image.proofs.writer.value_at.Statement.{statement}
 use Rattle.image.proofs.writer.value_at.Tie as tie
 use Rattle.image.proofs.writer.value_at.Reads as reads
 use Rattle.image.proofs.writer.value_at.Lts as lts
-use Rattle.image.proofs.layout.stands_at.Reads as stands-at-reads
+use Rattle.layout.proofs.places.stands_at.Reads as stands-at-reads
 use Rattle.image.proofs.writer.fence_of.Reads as fence-of-reads
 use Rattle.image.proofs.writer.half.Reads as half-reads
 use Rattle.image.proofs.writer.next_of.Reads as next-of-reads

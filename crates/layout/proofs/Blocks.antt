@@ -1,0 +1,35 @@
+-- Which blocks are wrong. Assumes nothing.
+use Prim.Native.Nat.{ℕ, _+_, _*_, _/_, _<_, _≤_}
+use mathlib.Core.Path.{_≡_, refl, sym, ap, ap₂, _∙_}
+use mathlib.Core.Bool.{Bool, true, false, not}
+use mathlib.Core.List.{List}
+use lib.Dec.{eqb}
+use lib.ListN.{length}
+use borrow.Author.Tests.{lt-ltb, le-ltb, eq-eqb, ne-eqb}
+use Rattle.layout.specs.Checksum.{twoBytes, checksum}
+use Rattle.layout.specs.Layout.{at}
+use Rattle.layout.specs.Barred.{wrong, checkOf, checkIn}
+
+module _ (image : List ℕ) (b : ℕ) where
+  pub wrong-short : length image < 512 * b + 512 → true ≡ wrong image b
+  unfolding wrong
+  wrong-short l = rw (lt-ltb _ _ l)
+
+  module _ (whole : 512 * b + 512 ≤ length image) (n : ℕ) (number : n ≡ twoBytes (at image (512 * b)) (at image (512 * b + 1))) where
+    pub wrong-number : (n ≡ b → ⊥) → true ≡ wrong image b
+    unfolding wrong
+    wrong-number h = rw (le-ltb _ _ whole, ne-eqb _ _ (λ e. h (number ∙ e)))
+
+    pub wrong-check : (s c : ℕ) → n ≡ b → s ≡ twoBytes (at image (512 * b + 510)) (at image (512 * b + 510 + 1))
+        → c ≡ checksum 255 (λ (p : ℕ). at image (512 * b + p)) → not (eqb s c) ≡ wrong image b
+    unfolding wrong checkOf
+    wrong-check s c h e f = rw (le-ltb _ _ whole, eq-eqb _ _ (sym number ∙ h)) (ap₂ (λ (x y : ℕ). not (eqb x y)) e f)
+
+-- the check of a block that is all there, and of one that is not
+pub check-there : (image : List ℕ) (b : ℕ) → b < length image / 512 → checkOf image b ≡ checkIn image b
+unfolding checkIn
+check-there image b l = rw (lt-ltb b (length image / 512) l)
+
+pub check-absent : (image : List ℕ) (b : ℕ) → length image / 512 ≤ b → 0 ≡ checkIn image b
+unfolding checkIn
+check-absent image b l = rw (le-ltb b (length image / 512) l)

@@ -1,0 +1,8 @@
+pub mod Tests
+pub mod Sums
+pub mod Lowest
+pub mod Blocks
+pub mod Names
+pub mod Standing
+pub mod Verdicts
+pub mod Zeros

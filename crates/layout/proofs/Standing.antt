@@ -1,0 +1,169 @@
+-- What stands where: from a byte's index to its place, and back. Assumes nothing.
+use Prim.Native.Nat.{ℕ, _+_, _-_, _*_, _/_, _%_, _<_, _≤_}
+use mathlib.Core.Path.{_≡_, refl, sym, ap, ap₂, subst, _∙_}
+use mathlib.Core.Bool.{Bool, true, false}
+use native.Mathlib.Nat.{mod-lt}
+use native.Mathlib.Omega.{arith}
+use lib.Dec.{ltb, eqb}
+use borrow.Author.Tests.{lt-ltb, le-ltb, eq-eqb, ne-eqb, ltb-true, ltb-false, eqb-true, eqb-false}
+use Rattle.tables.specs.Table.{choose}
+use Rattle.layout.specs.declared.places.Place.{Place}
+use mathlib.Core.List.{List}
+use Rattle.layout.specs.Barred.{barredAs, barred}
+use Rattle.layout.specs.Layout.{blocksFor, at, position, headerPlace, entryPlace, contentPlace, standsAt}
+
+-- byte i is of this place
+abbrev pub Stands : ℕ → Place → Type 0
+Stands i Place.Number = i % 512 < 2
+Stands i Place.Form = i ≡ 2
+Stands i Place.Way = i ≡ 3
+Stands i Place.States = i ≡ 4
+Stands i Place.UpstreamFences = i ≡ 5
+Stands i Place.TargetFences = i ≡ 6
+Stands i (Place.UpstreamName k) = (i ≡ 7 + k) × (k < 16)
+Stands i (Place.TargetName k) = (i ≡ 23 + k) × (k < 16)
+Stands i (Place.Fence s a) = (i ≡ position 1 s (2 * a)) × (a < 4)
+Stands i (Place.Next s a) = (i ≡ position 1 s (2 * a + 1)) × (a < 4)
+Stands i (Place.FenceNext s f) = (i ≡ position 1 s (8 + f)) × (f < 16)
+Stands i Place.Nothing = (2 ≤ i % 512) × (i % 512 < 510)
+Stands i Place.Check = 510 ≤ i % 512
+
+pub by-test : {A : Type 0} (P : A → Type 0) (t : Bool) (x y : A) → (t ≡ true → P x) → (t ≡ false → P y) → P (choose t x y)
+by-test P true x y f g = f refl
+by-test P false x y f g = g refl
+
+header-stands : (i p : ℕ) → i ≡ p → p ≡ i % 512 → 2 ≤ p → p < 506 → Stands i (headerPlace p)
+header-stands i p e m l u =
+    by-test (Stands i) (ltb p 3) _ _ (λ h. omega (arith, ltb-true p 3 h)) λ h3.
+    by-test (Stands i) (ltb p 4) _ _ (λ h. omega (arith, ltb-true p 4 h, ltb-false p 3 h3)) λ h4.
+    by-test (Stands i) (ltb p 5) _ _ (λ h. omega (arith, ltb-true p 5 h, ltb-false p 4 h4)) λ h5.
+    by-test (Stands i) (ltb p 6) _ _ (λ h. omega (arith, ltb-true p 6 h, ltb-false p 5 h5)) λ h6.
+    by-test (Stands i) (ltb p 7) _ _ (λ h. omega (arith, ltb-true p 7 h, ltb-false p 6 h6)) λ h7.
+    by-test (Stands i) (ltb p 23) _ _ (λ h. omega (arith, ltb-true p 23 h, ltb-false p 7 h7)) λ h23.
+    by-test (Stands i) (ltb p 39) _ _ (λ h. omega (arith, ltb-true p 39 h, ltb-false p 23 h23)) λ h39.
+    omega arith
+
+entry-stands : (i s o : ℕ) → i ≡ position 1 s o → o < 24 → Stands i (entryPlace 1 s o)
+entry-stands i s o e l =
+    by-test (Stands i) (ltb o 8) _ _
+    (λ h.
+    by-test (Stands i) (eqb (o % 2) 0) _ _ (λ w. omega (arith, ltb-true o 8 h, eqb-true (o % 2) 0 w))
+    (λ w. omega (arith, ltb-true o 8 h, eqb-false (o % 2) 0 w)))
+    (λ h. omega (arith, ltb-false o 8 h))
+
+-- the state and the byte of its entry, of byte p of block b
+located : (i b p : ℕ) → b ≡ i / 512 → p ≡ i % 512 → 0 < b → 2 ≤ p → p < 506 → i ≡ position 1 ((b - 1) * 21 + (p - 2) / 24) ((p - 2) % 24)
+located i b p e m h l u = omega arith
+
+pub stands : (i : ℕ) → Stands i (standsAt 1 i)
+unfolding standsAt
+stands i =
+    by-test (Stands i) (ltb (i % 512) 2) _ _ (λ h. omega (arith, ltb-true (i % 512) 2 h)) λ h2.
+    by-test (Stands i) (ltb (i % 512) 506) _ _
+    (λ h.
+    by-test (Stands i) (eqb (i / 512) 0) _ _
+    (λ w.
+    header-stands i (i % 512) (omega (arith, eqb-true (i / 512) 0 w)) refl (ltb-false (i % 512) 2 h2) (ltb-true (i % 512) 506 h))
+    (λ w.
+    let z = eqb-false (i / 512) 0 w in
+    entry-stands i _ _
+    (located i (i / 512) (i % 512) refl refl (omega (arith, z)) (ltb-false (i % 512) 2 h2) (ltb-true (i % 512) 506 h))
+    (mod-lt (i % 512 - 2) (omega arith)))) λ h506.
+    by-test (Stands i) (ltb (i % 512) 510) _ _ (λ h. (ltb-false (i % 512) 2 h2, ltb-true (i % 512) 510 h)) (λ h. ltb-false (i % 512) 510 h)
+
+-- what a place says of its byte
+pub stands-at : (i : ℕ) (place other : Place) → place ≡ standsAt 1 i → place ≡ other → Stands i other
+stands-at i place other e h = subst (Stands i) (sym e ∙ h) (stands i)
+
+-- a byte is barred as its place has it
+pub barred-as : (image : List ℕ) (i v : ℕ) (place other : Place) (r : Bool) → v ≡ at image i → place ≡ standsAt 1 i → place ≡ other
+    → r ≡ barredAs image i v other → r ≡ barred image i
+unfolding barred
+barred-as image i v place other r value e h b = b ∙ ap₂ (barredAs image i) value (sym h ∙ e)
+
+-- what stands at a byte of an entry, and that it is within the image
+pub entry-at : (s o : ℕ) → o < 24 → standsAt 1 (position 1 s o) ≡ entryPlace 1 s o
+unfolding standsAt
+entry-at s o l =
+    let b : position 1 s o / 512 ≡ 1 + s / 21 = omega arith in
+    let p : position 1 s o % 512 ≡ 2 + (24 * (s % 21) + o) = omega arith in
+    let q : (1 + s / 21 - 1) * 21 + (2 + (24 * (s % 21) + o) - 2) / 24 ≡ s = omega arith in
+    let r : (2 + (24 * (s % 21) + o) - 2) % 24 ≡ o = omega arith in
+    rw (
+      b,
+      p,
+      le-ltb (2 + (24 * (s % 21) + o)) 2 (omega arith),
+      lt-ltb (2 + (24 * (s % 21) + o)) 506 (omega arith),
+      ne-eqb (1 + s / 21) 0 (λ e. omega arith),
+      q,
+      r,
+    )
+
+pub fence-at : (s a : ℕ) → a < 4 → standsAt 1 (position 1 s (2 * a)) ≡ Place.Fence s a
+fence-at s a l =
+    let h : 2 * a / 2 ≡ a = omega arith in
+    entry-at s (2 * a) (omega arith) ∙ rw (lt-ltb (2 * a) 8 (omega arith), eq-eqb (2 * a % 2) 0 (omega arith), h)
+
+pub next-at : (s a : ℕ) → a < 4 → standsAt 1 (position 1 s (2 * a + 1)) ≡ Place.Next s a
+next-at s a l =
+    let h : (2 * a + 1) / 2 ≡ a = omega arith in
+    entry-at s (2 * a + 1) (omega arith)
+    ∙ rw (lt-ltb (2 * a + 1) 8 (omega arith), ne-eqb ((2 * a + 1) % 2) 0 (λ e. omega arith), h)
+
+pub onward-at : (s f : ℕ) → f < 16 → standsAt 1 (position 1 s (8 + f)) ≡ Place.FenceNext s f
+onward-at s f l =
+    let h : 8 + f - 8 ≡ f = omega arith in
+    entry-at s (8 + f) (omega arith) ∙ rw (le-ltb (8 + f) 8 (omega arith), h)
+
+pub upstream-at : (k : ℕ) → k < 16 → standsAt 1 (7 + k) ≡ Place.UpstreamName k
+unfolding standsAt
+upstream-at k l =
+    let b : (7 + k) / 512 ≡ 0 = omega arith in
+    let p : (7 + k) % 512 ≡ 7 + k = omega arith in
+    let h : 7 + k - 7 ≡ k = omega arith in
+    rw (
+      b,
+      p,
+      le-ltb (7 + k) 2 (omega arith),
+      lt-ltb (7 + k) 506 (omega arith),
+      le-ltb (7 + k) 3 (omega arith),
+      le-ltb (7 + k) 4 (omega arith),
+      le-ltb (7 + k) 5 (omega arith),
+      le-ltb (7 + k) 6 (omega arith),
+      le-ltb (7 + k) 7 (omega arith),
+      lt-ltb (7 + k) 23 (omega arith),
+      h,
+    )
+
+pub target-at : (k : ℕ) → k < 16 → standsAt 1 (23 + k) ≡ Place.TargetName k
+unfolding standsAt
+target-at k l =
+    let b : (23 + k) / 512 ≡ 0 = omega arith in
+    let p : (23 + k) % 512 ≡ 23 + k = omega arith in
+    let h : 23 + k - 23 ≡ k = omega arith in
+    rw (
+      b,
+      p,
+      le-ltb (23 + k) 2 (omega arith),
+      lt-ltb (23 + k) 506 (omega arith),
+      le-ltb (23 + k) 3 (omega arith),
+      le-ltb (23 + k) 4 (omega arith),
+      le-ltb (23 + k) 5 (omega arith),
+      le-ltb (23 + k) 6 (omega arith),
+      le-ltb (23 + k) 7 (omega arith),
+      le-ltb (23 + k) 23 (omega arith),
+      lt-ltb (23 + k) 39 (omega arith),
+      h,
+    )
+
+pub within-image : (s o n : ℕ) → s < n → o < 24 → position 1 s o < 512 * blocksFor 1 n
+within-image s o n l k = omega arith
+
+pub number-at : (i : ℕ) → i % 512 < 2 → standsAt 1 i ≡ Place.Number
+unfolding standsAt
+number-at i l = rw (lt-ltb _ _ l)
+
+pub entry-inside : (s o : ℕ) → o < 24 → position 1 s o % 512 < 510
+entry-inside s o l =
+    let p : position 1 s o % 512 ≡ 2 + (24 * (s % 21) + o) = omega arith in
+    omega arith

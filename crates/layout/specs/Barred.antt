@@ -1,0 +1,119 @@
+-- Document 01: refusals 1, "a text, stream or image is over its limit"; 10, "an image is empty, has a broken last block, or a wrong number or
+-- check", at the "lowest such block, counted from 0 by position; 0 if empty"; 11, "an image holds a value the layout bars; a wrong block count
+-- is charged to byte 4", at the "lowest such byte"; in this order.
+-- "In a name field the barred bytes are a first byte of zero, a nonzero byte that no name may hold, and any byte other than zero after a zero.
+-- The stored check must equal the computed one exactly."
+-- Each byte has its own rule; it may trust bytes 2 to 6, since where one of those is barred it is the lower.
+use Prim.Native.Nat.{ℕ, zero, suc, _+_, _-_, _*_, _/_, _%_, _≤_, max}
+use mathlib.Core.Path.{_≡_}
+use mathlib.Core.Bool.{Bool, true, false, not}
+use mathlib.Core.List.{List}
+use lib.Dec.{leb, ltb, eqb}
+use lib.ListN.{length}
+use Rattle.answers.specs.declared.Refusal.{Refusal}
+use Rattle.tables.specs.Table.{choose}
+use Rattle.rule.specs.Operation.{within}
+use Rattle.layout.specs.declared.places.Place.{Place}
+use Rattle.layout.specs.declared.verdict.Found.{Found}
+use Rattle.layout.specs.declared.verdict.Verdict.{Verdict}
+use Rattle.layout.specs.Checksum.{twoBytes, checksum}
+use Rattle.layout.specs.Layout.{accesses, blocksFor, limit, at, standsAt}
+
+-- the lowest of n numbers, counted from k, at which the test passes
+unfoldable pub lowest : (ℕ → Bool) → ℕ → ℕ → Found
+lowest f k zero = Found.Nowhere
+lowest f k (suc n) = choose (f k) (Found.At k) (lowest f (suc k) n)
+
+-- the check that block b must have; and 0 for one that is not all there
+unfoldable pub checkOf : List ℕ → ℕ → ℕ
+checkOf image b = checksum 255 (λ (p : ℕ). at image (512 * b + p))
+
+unfoldable pub checkIn : List ℕ → ℕ → ℕ
+checkIn image b = choose (ltb b (length image / 512)) (checkOf image b) 0
+
+-- block b is broken off, or has a wrong number or a wrong check
+unfoldable pub wrong : List ℕ → ℕ → Bool
+wrong image b =
+    choose (ltb (length image) (512 * b + 512)) true
+    (choose (eqb (twoBytes (at image (512 * b)) (at image (512 * b + 1))) b)
+    (not (eqb (twoBytes (at image (512 * b + 510)) (at image (512 * b + 510 + 1))) (checkOf image b)))
+    true)
+
+-- how many blocks there are by position, a broken last one counted; an empty image has a broken block 0
+abbrev pub blockCount : List ℕ → ℕ
+blockCount image = max 1 ((length image + 511) / 512)
+
+-- "ASCII letters, digits or underscores"
+unfoldable pub nameByte : ℕ → Bool
+nameByte b =
+    choose (within 48 57 b) true
+    (choose (within 65 90 b) true
+    (choose (within 97 122 b) true
+    (eqb b 95)))
+
+-- a zero stands among the first k bytes of the name at a place
+unfoldable pub ended : List ℕ → ℕ → ℕ → Bool
+ended image from zero = false
+ended image from (suc k) = choose (eqb (at image (from + k)) 0) true (ended image from k)
+
+unfoldable pub barredName : List ℕ → ℕ → ℕ → Bool
+barredName image from k =
+    choose (eqb (at image (from + k)) 0) (eqb k 0) (choose (nameByte (at image (from + k))) (ended image from k) true)
+
+-- the numbers that the header gives
+abbrev pub statesOf : List ℕ → ℕ
+statesOf image = at image 4
+
+abbrev pub upstreamFencesOf : List ℕ → ℕ
+upstreamFencesOf image = at image 5
+
+abbrev pub targetFencesOf : List ℕ → ℕ
+targetFencesOf image = at image 6
+
+-- the number that the next state must stay below: the states, and 1 where nothing but zero may stand
+unfoldable pub nextBelow : List ℕ → ℕ → Bool → ℕ
+nextBelow image state leads = choose (ltb state (statesOf image)) (choose leads (statesOf image) 1) 1
+
+-- "the states (1 to 255)", and so many blocks as they want
+unfoldable pub wrongCount : List ℕ → ℕ → Bool
+wrongCount image states = choose (eqb states 0) true (not (eqb (length image) (512 * blocksFor 1 states)))
+
+-- "a fence byte (a number, FF none, FE refused)": a number names a target fence
+unfoldable pub barredFence : List ℕ → ℕ → ℕ → Bool
+barredFence image state value =
+    choose (ltb state (statesOf image)) (choose (leb (targetFencesOf image) value) (ltb value 254) false) (leb 1 value)
+
+-- value v of byte i is barred, by what stands there
+abbrev pub barredAs : List ℕ → ℕ → ℕ → Place → Bool
+barredAs image i v Place.Number = false
+barredAs image i v Place.Check = false
+barredAs image i v Place.Nothing = leb 1 v
+barredAs image i v Place.Form = not (eqb v 1)
+barredAs image i v Place.Way = ltb 1 v
+barredAs image i v Place.States = wrongCount image v
+barredAs image i v Place.UpstreamFences = ltb 16 v
+barredAs image i v Place.TargetFences = ltb 16 v
+barredAs image i v (Place.UpstreamName k) = barredName image 7 k
+barredAs image i v (Place.TargetName k) = barredName image 23 k
+barredAs image i v (Place.Fence state a) = barredFence image state v
+barredAs image i v (Place.Next state a) = leb (nextBelow image state (not (eqb (at image (i - 1)) 254))) v
+barredAs image i v (Place.FenceNext state f) = leb (nextBelow image state (ltb f (upstreamFencesOf image))) v
+
+unfoldable pub barred : List ℕ → ℕ → Bool
+barred image i = barredAs image i (at image i) (standsAt 1 i)
+
+-- nothing barred stands from one byte up to another, so that the lowest from the one is the lowest from the other
+pub record Skips (image : List ℕ) (from to : ℕ) : Type 0 where
+  pub forward : from ≤ to
+  pub lowest-same : lowest (barred image) from (length image - from) ≡ lowest (barred image) to (length image - to)
+
+-- by the lowest wrong block and the lowest barred byte
+abbrev pub stages : Found → Found → Verdict
+stages (Found.At b) byte = Verdict.Refused (Refusal.BrokenBlock b)
+stages Found.Nowhere (Found.At i) = Verdict.Refused (Refusal.BarredValue i)
+stages Found.Nowhere Found.Nowhere = Verdict.Accepted
+
+unfoldable pub verdictOf : List ℕ → Verdict
+verdictOf image =
+    choose (ltb limit (length image)) (Verdict.Refused Refusal.OverLimit)
+    (stages (lowest (wrong image) 0 (blockCount image)) (lowest (barred image) 0 (length image)))

@@ -1,0 +1,272 @@
+// What is wrong with an image, and where.
+ghost use mathlib.Core.Path.{_≡_};
+ghost use mathlib.Core.Bool.{not};
+ghost use lib.Dec.{leb, ltb, eqb};
+ghost use Prim.Native.Nat.{_-_, _^_, _<_, _≤_};
+ghost use lib.ListN.{length};
+ghost use Rattle.layout.specs.Layout.{limit, at};
+ghost use Rattle.layout.specs.Barred.{lowest, wrong, blockCount, nameByte, ended, wrongCount, targetFencesOf, barredName, barredFence, nextBelow, barred, Skips, stages, verdictOf};
+use crate::checksum;
+use crate::places;
+use crate::places::Place;
+use answers::Refusal;
+
+const LIMIT: usize = 7168;
+
+pub enum Verdict {
+    Accepted,
+    Refused(Refusal),
+}
+
+// The first of some places.
+pub enum Found {
+    At(usize),
+    Nowhere,
+}
+
+// The byte at a place, 0 past the end.
+pub fn byte_at(image: &[u8], i: usize) -> u8
+    ensures { λ r. ⌜ r ≡ at (now (image .entry)) i ⌝ }
+{
+    if i < image.len() { image[i] } else { 0 }
+}
+
+pub fn number_at(image: &[u8], i: usize) -> usize
+    ensures { λ r. ⌜ (r ≡ at (now (image .entry)) i) × (r < 256) ⌝ }
+{
+    checksum::wide(byte_at(image, i))
+}
+
+fn is_name_byte(byte: u8) -> bool
+    ensures { λ r. ⌜ r ≡ nameByte byte ⌝ }
+{
+    if byte < b'0' {
+        return false;
+    }
+    if byte <= b'9' {
+        return true;
+    }
+    if byte < b'A' {
+        return false;
+    }
+    if byte <= b'Z' {
+        return true;
+    }
+    if byte < b'a' {
+        return byte == b'_';
+    }
+    if byte <= b'z' {
+        return true;
+    }
+    false
+}
+
+// Whether a zero stands among the first k bytes of the name.
+fn has_ended(image: &[u8], from: usize, k: usize) -> bool
+    requires { ⌜ (from < 64) × (k < 64) ⌝ }
+    ensures { λ r. ⌜ r ≡ ended (now (image .entry)) from k ⌝ }
+{
+    let mut j = k;
+    while 0 < j {
+        if byte_at(image, from + (j - 1)) == 0 {
+            return true;
+        }
+        j -= 1;
+    }
+    false
+}
+
+fn is_barred_name(image: &[u8], from: usize, k: usize) -> bool
+    requires { ⌜ (from < 64) × (k < 64) ⌝ }
+    ensures { λ r. ⌜ r ≡ barredName (now (image .entry)) from k ⌝ }
+{
+    let byte = byte_at(image, from + k);
+    if byte == 0 {
+        return k == 0;
+    }
+    if is_name_byte(byte) {
+        return has_ended(image, from, k);
+    }
+    true
+}
+
+// What a next state must stay below.
+fn next_below(image: &[u8], state: usize, leads: bool) -> usize
+    ensures { λ r. ⌜ (r ≡ nextBelow (now (image .entry)) state leads) × (r < 256) ⌝ }
+{
+    let states = number_at(image, 4);
+    if states <= state {
+        return 1;
+    }
+    if leads { states } else { 1 }
+}
+
+fn is_wrong(image: &[u8], b: usize) -> bool
+    requires { ⌜ b < 2 ^ 50 ⌝ }
+    ensures { λ r. ⌜ r ≡ wrong (now (image .entry)) b ⌝ }
+{
+    let from = 512 * b;
+    if image.len() < from + 512 {
+        return true;
+    }
+    let number = checksum::two_bytes(image, from);
+    if number != b {
+        return true;
+    }
+    checksum::two_bytes(image, from + 510) != checksum::check(image, from)
+}
+
+// How many blocks there are by position; an empty image has a broken block 0.
+fn block_count(image: &[u8]) -> usize
+    requires { ⌜ length (now image) ≤ limit ⌝ }
+    ensures { λ r. ⌜ (r ≡ blockCount (now (image .entry))) × (r < 2 ^ 50) ⌝ }
+{
+    if image.len() == 0 {
+        return 1;
+    }
+    (image.len() + 511) / 512
+}
+
+fn lowest_wrong(image: &[u8], count: usize) -> Found
+    requires { ⌜ count < 2 ^ 50 ⌝ }
+    ensures { λ r. ⌜ r ≡ lowest (wrong (now (image .entry))) 0 count ⌝ }
+{
+    let mut b = 0;
+    while b < count {
+        if is_wrong(image, b) {
+            return Found::At(b);
+        }
+        b += 1;
+    }
+    Found::Nowhere
+}
+
+// Whether a block count does not belong to so many states, or there are none.
+fn is_wrong_count(image: &[u8], states: usize) -> bool
+    requires { ⌜ states < 256 ⌝ }
+    ensures { λ r. ⌜ r ≡ wrongCount (now (image .entry)) states ⌝ }
+{
+    if states == 0 {
+        return true;
+    }
+    image.len() != 512 * (1 + (states + 20) / 21)
+}
+
+fn is_barred_fence(image: &[u8], state: usize, value: usize) -> bool
+    ensures { λ r. ⌜ r ≡ barredFence (now (image .entry)) state value ⌝ }
+{
+    if number_at(image, 4) <= state {
+        return 1 <= value;
+    }
+    if number_at(image, 6) <= value {
+        return value < 254;
+    }
+    false
+}
+
+fn is_barred_next(image: &[u8], i: usize, value: usize, state: usize) -> bool
+    requires { ⌜ 0 < i ⌝ }
+    ensures { λ r. ⌜ r ≡ leb (nextBelow (now (image .entry)) state (not (eqb (at (now (image .entry)) (i - 1)) 254))) value ⌝ }
+{
+    let leads = number_at(image, i - 1) != 254;
+    let bound = next_below(image, state, leads);
+    bound <= value
+}
+
+fn is_barred_fence_next(image: &[u8], value: usize, state: usize, f: usize) -> bool
+    ensures { λ r. ⌜ r ≡ leb (nextBelow (now (image .entry)) state (ltb f (at (now (image .entry)) 5))) value ⌝ }
+{
+    let leads = f < number_at(image, 5);
+    let limit = next_below(image, state, leads);
+    limit <= value
+}
+
+fn is_barred(image: &[u8], i: usize) -> bool
+    ensures { λ r. ⌜ r ≡ barred (now (image .entry)) i ⌝ }
+{
+    let value = number_at(image, i);
+    let place = places::stands_at(i);
+    match place {
+        Place::Number => false,
+        Place::Check => false,
+        Place::Nothing => 1 <= value,
+        Place::Form => value != 1,
+        Place::Way => 1 < value,
+        Place::States => is_wrong_count(image, value),
+        Place::UpstreamFences => 16 < value,
+        Place::TargetFences => 16 < value,
+        Place::UpstreamName(k) => is_barred_name(image, 7, k),
+        Place::TargetName(k) => is_barred_name(image, 23, k),
+        Place::Fence(state, _) => is_barred_fence(image, state, value),
+        Place::Next(state, _) => is_barred_next(image, i, value, state),
+        Place::FenceNext(state, f) => is_barred_fence_next(image, value, state, f),
+    }
+}
+
+// The first byte from here on that is not zero, or the end.
+fn past_zeros(image: &[u8], from: usize) -> usize
+    requires { ⌜ (39 ≤ from) × (0 < targetFencesOf (now image)) ⌝ }
+    ensures { λ r. ⌜ Skips (now (image .entry)) from r ⌝ }
+{
+    let mut i = from;
+    while i < image.len() {
+        if image[i] != 0 {
+            return i;
+        }
+        i += 1;
+    }
+    i
+}
+
+// The next byte to look at closely: most bytes are zeros behind the header, and such a byte is barred nowhere if there is a target fence.
+fn next_to_examine(image: &[u8], targets: usize, from: usize) -> usize
+    requires { ⌜ targets ≡ targetFencesOf (now image) ⌝ }
+    ensures { λ r. ⌜ Skips (now (image .entry)) from r ⌝ }
+{
+    if from < 39 {
+        return from;
+    }
+    if targets == 0 {
+        return from;
+    }
+    past_zeros(image, from)
+}
+
+fn lowest_barred(image: &[u8]) -> Found
+    ensures { λ r. ⌜ r ≡ lowest (barred (now (image .entry))) 0 (length (now (image .entry))) ⌝ }
+{
+    let targets = number_at(image, 6);
+    let mut i = 0;
+    while i < image.len() {
+        if is_barred(image, i) {
+            return Found::At(i);
+        }
+        i = next_to_examine(image, targets, i + 1);
+    }
+    Found::Nowhere
+}
+
+// What is wrong with an image whose blocks are right.
+fn examine_bytes(image: &[u8]) -> Verdict
+    ensures { λ r. ⌜ r ≡ stages Found.Nowhere (lowest (barred (now (image .entry))) 0 (length (now (image .entry)))) ⌝ }
+{
+    let byte = lowest_barred(image);
+    match byte {
+        Found::At(i) => Verdict::Refused(Refusal::BarredValue(i)),
+        Found::Nowhere => Verdict::Accepted,
+    }
+}
+
+// What is wrong with an image, first of all.
+pub fn examine(image: &[u8]) -> Verdict
+    ensures { λ r. ⌜ r ≡ verdictOf (now (image .entry)) ⌝ }
+{
+    if LIMIT < image.len() {
+        return Verdict::Refused(Refusal::OverLimit);
+    }
+    let block = lowest_wrong(image, block_count(image));
+    match block {
+        Found::At(b) => Verdict::Refused(Refusal::BrokenBlock(b)),
+        Found::Nowhere => examine_bytes(image),
+    }
+}
