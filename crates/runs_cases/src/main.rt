@@ -1,7 +1,7 @@
 // Direct runs, a line for each: the case, its way, the five numbers of the answer, the output in brackets, and whether the buffer is as it was
 // behind the output. The cases are those of document 01: the streams to try, the traps, the limits, and the refusals in their order.
-// The stored output comes from the model in `host/model`, which shares nothing with this code: a script read the cases out of this file, asked
-// `shim-model run` for each, and put 7 where what the model puts out is longer than the buffer.
+// The stored output comes from the model in `host/model`, which shares nothing with this code: `tools/expect-runs-cases` reads the cases out of
+// this file, asks the model for each, and puts 7 where what the model puts out is longer than the buffer.
 mod texts;
 
 use answers::Answer;
