@@ -1,6 +1,6 @@
 -- The theorems about images, as a reader wants to find them. Assumes nothing.
 use Prim.Native.Nat.{ℕ, _*_, _<_, _≤_}
-use mathlib.Core.Path.{_≡_, refl, sym, _∙_}
+use mathlib.Core.Path.{_≡_}
 use mathlib.Core.List.{List, _++_}
 use lib.ListN.{length, take}
 use Rattle.layout.specs.declared.verdict.Verdict.{Verdict}
@@ -56,8 +56,3 @@ module _ (h : Header) (rows : List ℕ) (machine : Canonical h rows) where
 pub goes-on : (image : List ℕ) (s : ℕ) (first second : List ℕ)
     → ran image s (first ++ second) ≡ then (length first) (ran image s first) (λ (t : ℕ). ran image t second)
 goes-on = continued
-
--- Every contract of this crate is an equation of the answer, and one of each buffer, with a definition: what two such answers are allowed to be
--- is one thing.
-pub unique : {A : Type 0} {x y given : A} → x ≡ given → y ≡ given → x ≡ y
-unique p q = p ∙ sym q

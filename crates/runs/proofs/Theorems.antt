@@ -9,7 +9,6 @@ use borrow.Author.Tests.{ltb-false}
 use lib.Dec.{ltb}
 use lib.ListN.{length}
 use Rattle.tables.specs.Table.{choose}
-use Rattle.tables.proofs.Unique.{one-answer}
 use Rattle.answers.specs.declared.Refusal.{Refusal}
 use Rattle.models.specs.declared.model.Verdict.{Verdict}
 use Rattle.models.specs.declared.model.Reading.{Reading}
@@ -145,7 +144,3 @@ module _ {number : ℕ} {upstream target stream bytes : List ℕ} (call : Accept
       → fences (call .output) ≤ fences other
   call-fewest full other p h =
       fewest-fences up on (call .input) (call .output) (sym (ap (λ (w : Way). run w up on (call .input)) full) ∙ call .ran) other p h
-
--- Two answers, or two buffers, that the call's contract allows are equal.
-pub call-one : {A : Type 0} {r s a : A} → r ≡ a → s ≡ a → r ≡ s
-call-one = one-answer
