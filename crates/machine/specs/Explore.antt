@@ -43,6 +43,12 @@ pub data Onward (m : Machine Situation ℕ) (count : ℕ) (pairs links table : L
   onward : count ≤ r → r ≤ capacity → Explored m pairs links table r i a → Onward m count pairs links table i a r
   beyond : r ≡ 4097 → More m _≡_ capacity → Onward m count pairs links table i a r
 
+-- exploring has come to its end, whatever index it kept
+pub record Surveyed (m : Machine Situation ℕ) (table : List ℕ) (r : ℕ) : Type 0 where
+  pub pairs : List ℕ
+  pub links : List ℕ
+  pub ended : Onward m 0 pairs links table r 0 r
+
 -- nothing has been written
 pub record Blank (table : List ℕ) : Type 0 where
   pub blank : (p : ℕ) → at table p ≡ 0

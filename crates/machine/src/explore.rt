@@ -3,9 +3,9 @@
 ghost use mathlib.Core.Path.{_≡_};
 ghost use Prim.Native.Nat.{_+_, _*_, _<_, _≤_};
 ghost use lib.ListN.{length};
-ghost use Rattle.machine.specs.Index.{capacity, Scratch, Index};
+ghost use Rattle.machine.specs.Index.{capacity, Index};
 ghost use Rattle.machine.specs.Words.{stride, words};
-ghost use Rattle.machine.specs.Explore.{situationAt, Explored, Stored, Onward, Blank, Fresh};
+ghost use Rattle.machine.specs.Explore.{situationAt, Explored, Stored, Onward, Surveyed, Blank, Fresh};
 ghost use Rattle.machine.specs.Shim.{shimOf};
 use crate::index;
 use crate::refine;
@@ -126,10 +126,9 @@ fn explore_row<'a>(
 
 // Puts the fresh situation at place 0.
 fn begin(pairs: &mut [u64], links: &mut [u16])
-    requires { ⌜ Scratch (now pairs) (now links) ⌝ }
+    requires { ⌜ Index (now pairs) (now links) 0 ⌝ }
     ensures { λ _. ⌜ Fresh (now (pairs .exit)) (now (links .exit)) ⌝ }
 {
-    refine::clear(links);
     let fresh = Situation::fresh();
     let need = fresh.need.packed;
     let low = fresh.low.packed;
@@ -163,22 +162,21 @@ fn explore_all<'a>(
     count
 }
 
-// Explores from nothing.
+// Explores from nothing, in an index of its own.
 pub(crate) fn explore<'a>(
     way: Way,
     up: Table,
     ups: &'a [u64],
     target: Table,
     fences: &'a [u64],
-    pairs: &mut [u64],
-    links: &mut [u16],
     table: &mut [u32],
 ) -> usize
-    requires { ⌜ Scratch (now pairs) (now links) ⌝ }
     requires { ⌜ (length (now table) ≡ words) × Blank (now table) ⌝ }
     requires { ⌜ (length (now ups) ≤ 16) × (length (now fences) ≤ 16) ⌝ }
-    ensures { λ r. ⌜ Onward (shimOf way up (now (ups .entry)) target (now (fences .entry))) 0 (now (pairs .exit)) (now (links .exit)) (now (table .exit)) r 0 r ⌝ }
+    ensures { λ r. ⌜ Surveyed (shimOf way up (now (ups .entry)) target (now (fences .entry))) (now (table .exit)) r ⌝ }
 {
-    begin(pairs, links);
-    explore_all(way, up, ups, target, fences, pairs, links, table)
+    let mut pairs = [0u64; 8192];
+    let mut links = [0u16; 8192];
+    begin(&mut pairs, &mut links);
+    explore_all(way, up, ups, target, fences, &mut pairs, &mut links, table)
 }

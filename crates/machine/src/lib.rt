@@ -1,5 +1,4 @@
 // The minimal machine of two models and a way.
-mod build;
 mod explore;
 mod index;
 pub mod machine;
@@ -9,7 +8,8 @@ mod step;
 
 ghost use mathlib.Core.Path.{_≡_};
 ghost use lib.ListN.{take};
-ghost use Rattle.machine.specs.Generated.{Generated};
+ghost use Rattle.machine.specs.Generated.{wayNumber, Generated};
+use crate::machine::Machine;
 use crate::machine::Outcome;
 use rule::way::Way;
 use tables::table::Table;
@@ -24,8 +24,17 @@ fn named<'a>(fences: &'a [u64]) -> &'a [u64]
     &fences[..16]
 }
 
+fn way_number(way: Way) -> u64
+    ensures { λ r. ⌜ r ≡ wayNumber way ⌝ }
+{
+    match way {
+        Way::Sparing => 0,
+        Way::Full => 1,
+    }
+}
+
 // Generates the machine of the upstream model on the target model, by their default tables and their fences' packed tables, and writes its rows.
-// All scratch, 408 KiB, is on the stack of this call.
+// The table of answers, 320 KiB, is on the stack of this call, and some 84 KiB of scratch on those of the calls in it.
 pub fn generate<'a>(
     way: Way,
     up: Table,
@@ -38,22 +47,26 @@ pub fn generate<'a>(
 {
     let own = named(ups);
     let its = named(fences);
-    let mut pairs = [0u64; 8192];
-    let mut links = [0u16; 8192];
     let mut table = [0u32; 81920];
+    let count = explore::explore(way, up, own, target, its, &mut table);
+    if 4096 < count {
+        return Outcome::Situations;
+    }
+    let letters = 4 + own.len();
     let mut classes = [0u8; 4096];
-    let mut finer = [0u8; 4096];
-    build::build(
-        way,
-        up,
-        own,
-        target,
-        its,
-        &mut pairs,
-        &mut links,
-        &mut table,
-        &mut classes,
-        &mut finer,
-        rows,
-    )
+    let states = refine::refine(&table, &mut classes, count, letters);
+    if 255 < states {
+        return Outcome::States;
+    }
+    if rows.len() < states * 20 {
+        return Outcome::Room;
+    }
+    rows::write_rows(&table, &classes, rows, letters, count, states);
+    Outcome::Made(Machine {
+        way: way_number(way),
+        situations: count,
+        states,
+        ups: own.len(),
+        targets: its.len(),
+    })
 }

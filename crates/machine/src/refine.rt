@@ -119,24 +119,26 @@ fn split_all<'a>(
 
 // Splits the classes round after round, until a round leaves their count as it was: then each class is one state. Gives the count; 256 where the
 // states are more than 255.
-pub(crate) fn refine<'a>(
-    table: &'a [u32],
-    classes: &mut [u8],
-    finer: &mut [u8],
-    pairs: &mut [u64],
-    links: &mut [u16],
-    k: usize,
-    letters: usize,
-    began: usize,
-) -> usize
-    requires { ⌜ (length (now table) ≡ words) × (length (now finer) ≡ capacity) ⌝ }
-    requires { ⌜ Scratch (now pairs) (now links) ⌝ }
-    requires { ⌜ Begun (tabled letters (now table)) k (now classes) began ⌝ }
+pub(crate) fn refine<'a>(table: &'a [u32], classes: &mut [u8], k: usize, letters: usize) -> usize
+    requires { ⌜ length (now table) ≡ words ⌝ }
+    requires { ⌜ Begun (tabled letters (now table)) k (now classes) 1 ⌝ }
     ensures { λ r. ⌜ Refined (tabled letters (now (table .entry))) k (now (classes .exit)) r ⌝ }
 {
-    let mut count = began;
+    let mut finer = [0u8; 4096];
+    let mut pairs = [0u64; 8192];
+    let mut links = [0u16; 8192];
+    let mut count = 1;
     loop {
-        let more = split_all(table, classes, finer, pairs, links, k, letters, count);
+        let more = split_all(
+            table,
+            classes,
+            &mut finer,
+            &mut pairs,
+            &mut links,
+            k,
+            letters,
+            count,
+        );
         if 255 < more {
             return more;
         }

@@ -1,22 +1,17 @@
 use borrow.Author.Needs.{needs}
-use Rattle.machine.proofs.Naming.{empty-index}
 use Rattle.machine.proofs.Breadth.{fresh-placed}
 use Rattle.machine.proofs.explore.begin.Statement.{statement}
 use Rattle.machine.proofs.explore.begin.Tie as tie
 use Rattle.machine.proofs.explore.begin.Reads as reads
 use Rattle.machine.proofs.explore.begin.Lts as lts
 use Rattle.machine.proofs.index.place.Reads as place-reads
-use Rattle.machine.proofs.refine.clear.Reads as clear-reads
 use Rattle.rule.proofs.situation.Situation.fresh.Reads as fresh-reads
-
-clear-requires : tie.Need-clear-requires
-clear-requires c κs = search needs
 
 fresh-requires : tie.Need-fresh-requires
 fresh-requires c κs = search needs
 
 place-requires : tie.Need-place-requires
-place-requires c κs = search (empty-index, needs)
+place-requires c κs = search needs
 
 same-length : tie.Need-same-length
 same-length c = search needs
@@ -28,6 +23,4 @@ returns : tie.Need-returns
 returns c = search (fresh-placed, needs)
 
 pub begin-spec : {M : Type 1} → statement M
-begin-spec =
-    tie.close
-    (tie.spec clear-requires fresh-requires place-requires same-length same-length-2 returns)
+begin-spec = tie.close (tie.spec fresh-requires place-requires same-length same-length-2 returns)

@@ -1,6 +1,8 @@
 use borrow.Author.Needs.{needs}
-use Prim.Native.Nat.{_-_}
+use Prim.Native.Nat.{ℕ, _-_}
+use lib.ListN.{length-replicate}
 use Rattle.machine.proofs.Rounds.{Refining, refining-start, refining-crowd, refining-end, refining-less, refining-next, scratch-kept}
+use Rattle.machine.proofs.Zeros.{new-scratch}
 use Rattle.machine.proofs.refine.refine.Statement.{statement}
 use Rattle.machine.proofs.refine.refine.Tie as tie
 use Rattle.machine.proofs.refine.refine.Reads as reads
@@ -8,15 +10,23 @@ use Rattle.machine.proofs.refine.refine.Lts as lts
 use Rattle.machine.proofs.refine.split_all.Reads as split-all-reads
 
 abbrev Inv-loop : tie.InvT-loop
-Inv-loop table classes₀ finer₀ pairs₀ links₀ k letters began count₀ classes finer pairs links count =
+Inv-loop table classes₀ k letters finer₀ pairs₀ links₀ count₀ classes finer pairs links count =
     Refining letters table k classes finer pairs links count
 
 abbrev μ-loop : tie.MeasureT-loop
-μ-loop table classes₀ finer₀ pairs₀ links₀ k letters began count₀ classes finer pairs links count =
-    256 - count
+μ-loop table classes₀ k letters finer₀ pairs₀ links₀ count₀ classes finer pairs links count = 256 - count
 
 loop-holds : tie.Need-loop-holds Inv-loop μ-loop
-loop-holds c = search (refining-start, needs)
+loop-holds c = refining-start (search needs) (search needs, length-replicate {A = ℕ} 4096 0) new-scratch
+
+slice-aggregate-split-all : tie.Need-slice-aggregate-split-all Inv-loop μ-loop
+slice-aggregate-split-all c = search needs
+
+slice-aggregate-split-all-2 : tie.Need-slice-aggregate-split-all-2 Inv-loop μ-loop
+slice-aggregate-split-all-2 c = search needs
+
+slice-aggregate-split-all-3 : tie.Need-slice-aggregate-split-all-3 Inv-loop μ-loop
+slice-aggregate-split-all-3 c = search needs
 
 split-all-requires : tie.Need-split-all-requires Inv-loop μ-loop
 split-all-requires c κs = search needs
@@ -24,29 +34,11 @@ split-all-requires c κs = search needs
 same-length : tie.Need-same-length Inv-loop μ-loop
 same-length c = search needs
 
-same-length-2 : tie.Need-same-length-2 Inv-loop μ-loop
-same-length-2 c = search needs
-
-same-length-3 : tie.Need-same-length-3 Inv-loop μ-loop
-same-length-3 c = search needs
-
-same-length-4 : tie.Need-same-length-4 Inv-loop μ-loop
-same-length-4 c = search needs
-
 returns : tie.Need-returns Inv-loop μ-loop
 returns c = search (refining-crowd, needs)
 
-same-length-5 : tie.Need-same-length-5 Inv-loop μ-loop
-same-length-5 c = search needs
-
-same-length-6 : tie.Need-same-length-6 Inv-loop μ-loop
-same-length-6 c = search needs
-
-same-length-7 : tie.Need-same-length-7 Inv-loop μ-loop
-same-length-7 c = search needs
-
-same-length-8 : tie.Need-same-length-8 Inv-loop μ-loop
-same-length-8 c = search needs
+same-length-2 : tie.Need-same-length-2 Inv-loop μ-loop
+same-length-2 c = search needs
 
 returns-2 : tie.Need-returns-2 Inv-loop μ-loop
 returns-2 c = search (refining-end, needs)
@@ -64,16 +56,13 @@ refine-spec =
     Inv-loop
     μ-loop
     loop-holds
+    slice-aggregate-split-all
+    slice-aggregate-split-all-2
+    slice-aggregate-split-all-3
     split-all-requires
     same-length
-    same-length-2
-    same-length-3
-    same-length-4
     returns
-    same-length-5
-    same-length-6
-    same-length-7
-    same-length-8
+    same-length-2
     returns-2
     loop-less
     loop-again)
