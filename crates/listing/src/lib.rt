@@ -9,7 +9,6 @@ ghost use Rattle.answers.specs.Written.{written, writing};
 ghost use Rattle.models.specs.Writing.{unfilled};
 ghost use Rattle.machine.specs.Rows.{rowOf};
 ghost use Rattle.listing.specs.Buffer.{Listable};
-ghost use Rattle.machine.specs.Generated.{wayNumber};
 ghost use Rattle.listing.specs.Printed.{listing, refusalLine};
 ghost use Rattle.answers.specs.Given.{answerOf, bufferOf, Answers};
 ghost use Rattle.listing.specs.Listed.{MachineListed, PartsListed, ShapeListed, Listed};
@@ -141,15 +140,6 @@ fn list_run<'a>(
     list_models(way, asked, offered, output, fences, out)
 }
 
-fn number_of(way: Way) -> u64
-    ensures { λ r. ⌜ r ≡ wayNumber way ⌝ }
-{
-    match way {
-        Way::Sparing => 0,
-        Way::Full => 1,
-    }
-}
-
 // Lists the parts of an input. The stream is run first, so that its refusals go before the machine's.
 fn list_parts<'a>(
     way: Way,
@@ -161,7 +151,13 @@ fn list_parts<'a>(
     ensures { λ r. ⌜ Answers (PartsListed (record { upstream = now (upstream .entry); target = now (target .entry); way = way; stream = now (stream .entry) })) (now (out .entry)) r (now (out .exit)) ⌝ }
 {
     let mut output = [0u8; 8192];
-    let answer = runs::run(number_of(way), upstream, target, stream, &mut output);
+    let answer = runs::run(
+        machine::way_number(way),
+        upstream,
+        target,
+        stream,
+        &mut output,
+    );
     match answer {
         Answer::Refused(why) => Answer::Refused(why),
         Answer::Done {

@@ -24,7 +24,8 @@ fn named<'a>(fences: &'a [u64]) -> &'a [u64]
     &fences[..16]
 }
 
-fn way_number(way: Way) -> u64
+// A way's number in an image and in a call.
+pub fn way_number(way: Way) -> u64
     ensures { λ r. ⌜ r ≡ wayNumber way ⌝ }
 {
     match way {

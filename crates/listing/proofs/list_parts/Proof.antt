@@ -11,8 +11,8 @@ use borrow.Author.Needs.{needs}
 use Rattle.listing.proofs.list_parts.Statement.{statement}
 use Rattle.listing.proofs.list_parts.Tie as tie
 
-number-of-requires : tie.Need-number-of-requires
-number-of-requires c κs = search needs
+way-number-requires : tie.Need-way-number-requires
+way-number-requires c κs = search needs
 
 slice-aggregate-run : tie.Need-slice-aggregate-run
 slice-aggregate-run c = search needs
@@ -29,20 +29,20 @@ enum-known-answer-2 c = search needs
 array-share-prefix-output : tie.Need-array-share-prefix-output
 array-share-prefix-output c = let a = c .before .before .before .before .before .before .before .before .before .before .before .args in
     let r = c .before .before .before .before .run in
-    call-taken (a .way) (now (a .upstream)) (now (a .target)) (now (a .stream)) (c .before .before .before .before .before .before .number-of .ensures) (replicate 8192 0) (length-replicate {A = ℕ} 8192 0)
+    call-taken (a .way) (now (a .upstream)) (now (a .target)) (now (a .stream)) (c .before .before .before .before .before .before .way-number .ensures) (replicate 8192 0) (length-replicate {A = ℕ} 8192 0)
     (r .ensures .0) (r .ensures .1) (c .before .answer2 .given .1) .fits
 
 slice-aggregate-list-run : tie.Need-slice-aggregate-list-run
 slice-aggregate-list-run c = let a = c .before .before .before .before .before .before .before .before .before .before .before .before .args in
     let r = c .before .before .before .before .before .run in
     sym (length-take-le _ (r .last .1 .1 .1 .1 .0)
-    (call-taken (a .way) (now (a .upstream)) (now (a .target)) (now (a .stream)) (c .before .before .before .before .before .before .before .number-of .ensures) (replicate 8192 0) (length-replicate {A = ℕ} 8192 0)
+    (call-taken (a .way) (now (a .upstream)) (now (a .target)) (now (a .stream)) (c .before .before .before .before .before .before .before .way-number .ensures) (replicate 8192 0) (length-replicate {A = ℕ} 8192 0)
     (r .ensures .0) (r .ensures .1) (c .before .before .answer2 .given .1) .fits))
 
 list-run-requires : tie.Need-list-run-requires
 list-run-requires c κs = let a = c .before .before .before .before .before .before .before .before .before .before .before .before .before .args in
     let r = c .before .before .before .before .before .before .run in
-    let t = call-taken (a .way) (now (a .upstream)) (now (a .target)) (now (a .stream)) (c .before .before .before .before .before .before .before .before .number-of .ensures) (replicate 8192 0) (length-replicate {A = ℕ} 8192 0)
+    let t = call-taken (a .way) (now (a .upstream)) (now (a .target)) (now (a .stream)) (c .before .before .before .before .before .before .before .before .way-number .ensures) (replicate 8192 0) (length-replicate {A = ℕ} 8192 0)
     (r .ensures .0) (r .ensures .1) (c .before .before .before .answer2 .given .1) in
     let b = both-accepted (a .way) (now (a .upstream)) (now (a .target)) (now (a .stream)) (t .gives) in
     (b .0, b .1, record { fits = t .few; count = t .count })
@@ -53,7 +53,7 @@ returns c = let a = c .before .before .before .before .before .before .before .b
       given = refuses _;
       right =
           halts
-          (call-refused (a .way) (now (a .upstream)) (now (a .target)) (now (a .stream)) (c .before .before .before .before .before .before .number-of .ensures) (replicate 8192 0) (length-replicate {A = ℕ} 8192 0)
+          (call-refused (a .way) (now (a .upstream)) (now (a .target)) (now (a .stream)) (c .before .before .before .before .before .before .way-number .ensures) (replicate 8192 0) (length-replicate {A = ℕ} 8192 0)
           (c .before .before .before .before .run .ensures .0) (c .before .answer .given .1));
       answer = refl;
       buffer = refl;
@@ -65,7 +65,7 @@ same-length c = search needs
 returns-2 : tie.Need-returns-2
 returns-2 c = let a = c .before .before .before .before .before .before .before .before .before .before .before .before .before .before .before .before .args in
     let r = c .before .before .before .before .before .before .before .before .before .run in
-    let t = call-taken (a .way) (now (a .upstream)) (now (a .target)) (now (a .stream)) (c .before .before .before .before .before .before .before .before .before .before .before .number-of .ensures) (replicate 8192 0) (length-replicate {A = ℕ} 8192 0)
+    let t = call-taken (a .way) (now (a .upstream)) (now (a .target)) (now (a .stream)) (c .before .before .before .before .before .before .before .before .before .before .before .way-number .ensures) (replicate 8192 0) (length-replicate {A = ℕ} 8192 0)
     (r .ensures .0) (r .ensures .1) (c .before .before .before .before .before .before .answer2 .given .1) in
     let l = c .before .before .list-run .ensures in
     record { given = l .given; right = runs (t .gives) (l .right); answer = l .answer; buffer = l .buffer }
@@ -74,7 +74,7 @@ pub list-parts-spec : {M : Type 1} → statement M
 list-parts-spec =
     tie.close
     (tie.spec
-    number-of-requires
+    way-number-requires
     slice-aggregate-run
     run-requires
     enum-known-answer
