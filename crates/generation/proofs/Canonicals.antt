@@ -10,6 +10,7 @@ use lib.ListN.{length, take, getD, replicate, length-append, length-replicate, g
 use lib.Seq.{take-all, length-take-le, getD-append-add}
 use Rattle.tables.specs.Table.{choose}
 use Rattle.rule.specs.declared.way.Way.{Way}
+use Rattle.rule.specs.Rule.{wayNumber}
 use Rattle.rule.specs.Pairs as rule
 use Rattle.rule.specs.Situation.{asks}
 use Rattle.rule.proofs.Choices.{differ}
@@ -28,7 +29,7 @@ use Rattle.mealy.proofs.Runs.{untaken, same-refl}
 use Rattle.machine.specs.declared.machine.Machine.{Machine}
 use Rattle.machine.specs.Shim.{shim}
 use Rattle.machine.specs.Rows.{decoded}
-use Rattle.machine.specs.Generated.{wayNumber, Canonical as Word, refusing, passing, Making, named}
+use Rattle.machine.specs.Generated.{Canonical as Word, refusing, passing, Making, named}
 use Rattle.layout.specs.Layout.{at}
 use Rattle.layout.specs.Barred.{nameByte}
 use Rattle.image.specs.Image.{word, NameField, AccessWord, Canonical}

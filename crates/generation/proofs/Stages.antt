@@ -10,6 +10,7 @@ use Rattle.answers.specs.Given.{Given, refuses, answerOf, bufferOf, Answers}
 use Rattle.answers.proofs.Given.{answers-refusal, answers-by}
 use Rattle.tables.specs.declared.table.Table.{Table}
 use Rattle.rule.specs.declared.way.Way.{Way}
+use Rattle.rule.specs.Rule.{wayNumber}
 use Rattle.models.specs.declared.model.Model.{Model}
 use Rattle.models.specs.declared.model.Name.{Name}
 use Rattle.models.specs.declared.model.Verdict.{Verdict}
@@ -18,7 +19,7 @@ use Rattle.models.specs.Reading.{reading}
 use Rattle.runs.specs.declared.WayRead.{WayRead}
 use Rattle.runs.specs.Call.{wayOf}
 use Rattle.machine.specs.declared.machine.Outcome.{Outcome}
-use Rattle.machine.specs.Generated.{wayNumber, Generated}
+use Rattle.machine.specs.Generated.{Generated}
 use Rattle.machine.proofs.Zeros.{at-most-sixteen}
 use Rattle.generation.specs.Generating.{givenBy, onWay, onVerdict, GivenUnder, ImageGiven, SmallMade}
 

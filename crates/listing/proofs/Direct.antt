@@ -15,6 +15,7 @@ use Rattle.answers.specs.Written.{written, writing}
 use Rattle.answers.proofs.Laws.{written-fits, writing-fits}
 use Rattle.rule.specs.declared.situation.Situation.{Situation}
 use Rattle.rule.specs.declared.way.Way.{Way}
+use Rattle.rule.specs.Rule.{wayNumber}
 use Rattle.rule.specs.Operation.{fenceByte}
 use Rattle.rule.specs.Pairs.{Model}
 use Rattle.rule.specs.Situation.{fresh}
@@ -28,7 +29,6 @@ use Rattle.runs.specs.Call as call
 use Rattle.runs.specs.Call.{wayOf, modelOf, onVerdict, onStream, onto, under, outcome}
 use Rattle.runs.specs.Moves.{ahead, movesOn, moves, moved}
 use Rattle.runs.proofs.ByMoves.{direct-moves}
-use Rattle.machine.specs.Generated.{wayNumber}
 
 -- an output of at most so many bytes, or a refusal
 abbrev pub Short : ℕ → Outcome → Type 0

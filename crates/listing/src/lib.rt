@@ -23,6 +23,7 @@ use machine::machine::Machine;
 use machine::machine::Outcome;
 use models::model::Model;
 use models::model::Name;
+use rule::way;
 use rule::way::Way;
 
 // Writes the line of a refusal, `refused N at K`.
@@ -151,13 +152,7 @@ fn list_parts<'a>(
     ensures { λ r. ⌜ Answers (PartsListed (record { upstream = now (upstream .entry); target = now (target .entry); way = way; stream = now (stream .entry) })) (now (out .entry)) r (now (out .exit)) ⌝ }
 {
     let mut output = [0u8; 8192];
-    let answer = runs::run(
-        machine::way_number(way),
-        upstream,
-        target,
-        stream,
-        &mut output,
-    );
+    let answer = runs::run(way::way_number(way), upstream, target, stream, &mut output);
     match answer {
         Answer::Refused(why) => Answer::Refused(why),
         Answer::Done {

@@ -11,6 +11,7 @@ use lib.ListN.{length}
 use Rattle.tables.specs.declared.table.Table.{Table}
 use Rattle.rule.specs.declared.situation.Situation.{Situation}
 use Rattle.rule.specs.declared.way.Way.{Way}
+use Rattle.rule.specs.Rule.{wayNumber}
 use Rattle.mealy.specs.Runs.{taken, Machine, Same}
 use Rattle.mealy.specs.Arrivals.{Entry, Described, More, AtMost, Exactly}
 use Rattle.mealy.specs.Classes.{Numbering, classed, States}
@@ -25,7 +26,7 @@ use Rattle.machine.specs.Rows.{decoded, stateWord, stateEntry, RowsWritt
 use Rattle.machine.specs.Refine.{Begun, Crowd}
 use Rattle.machine.specs.Explore.{Explored, Output, Blank}
 use Rattle.machine.specs.Shim.{shimOf}
-use Rattle.machine.specs.Generated.{wayNumber, Canonical, refusing, passing, Making}
+use Rattle.machine.specs.Generated.{Canonical, refusing, passing, Making}
 use Rattle.machine.proofs.Letters.{shim-step, letter-fence}
 use Rattle.machine.proofs.Keys.{word-refused, word-taken}
 

@@ -8,6 +8,7 @@ use lib.ListN.{length, take}
 use Rattle.tables.specs.declared.table.Table.{Table}
 use Rattle.rule.specs.declared.situation.Situation.{Situation}
 use Rattle.rule.specs.declared.way.Way.{Way}
+use Rattle.rule.specs.Rule.{wayNumber}
 use Rattle.mealy.specs.Runs.{Answer, Machine as Mealy, Same}
 use Rattle.mealy.specs.Arrivals.{More, AtMost, Exactly, Described}
 use Rattle.machine.specs.Words.{stride, at}
@@ -15,11 +16,6 @@ use Rattle.machine.specs.Rows.{rowOf}
 use Rattle.machine.specs.Shim.{shimOf}
 use Rattle.machine.specs.declared.machine.Machine.{Machine}
 use Rattle.machine.specs.declared.machine.Outcome.{Outcome}
-
--- a way's number in an image
-abbrev pub wayNumber : Way → ℕ
-wayNumber Way.Sparing = 0
-wayNumber Way.Full = 1
 
 -- the word of a refusal; and one of an output, which is a target fence's number or none, and of a next state
 pub data Canonical (targets states w : ℕ) : Type 0 where

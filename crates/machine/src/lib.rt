@@ -8,9 +8,10 @@ mod step;
 
 ghost use mathlib.Core.Path.{_≡_};
 ghost use lib.ListN.{take};
-ghost use Rattle.machine.specs.Generated.{wayNumber, Generated};
+ghost use Rattle.machine.specs.Generated.{Generated};
 use crate::machine::Machine;
 use crate::machine::Outcome;
+use rule::way;
 use rule::way::Way;
 use tables::table::Table;
 
@@ -22,16 +23,6 @@ fn named<'a>(fences: &'a [u64]) -> &'a [u64]
         return fences;
     }
     &fences[..16]
-}
-
-// A way's number in an image and in a call.
-pub fn way_number(way: Way) -> u64
-    ensures { λ r. ⌜ r ≡ wayNumber way ⌝ }
-{
-    match way {
-        Way::Sparing => 0,
-        Way::Full => 1,
-    }
 }
 
 // Generates the machine of the upstream model on the target model, by their default tables and their fences' packed tables, and writes its rows.
@@ -64,7 +55,7 @@ pub fn generate<'a>(
     }
     rows::write_rows(&table, &classes, rows, letters, count, states);
     Outcome::Made(Machine {
-        way: way_number(way),
+        way: way::way_number(way),
         situations: count,
         states,
         ups: own.len(),

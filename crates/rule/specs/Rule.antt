@@ -17,6 +17,11 @@ use Rattle.rule.specs.declared.way.Choice.{Choice}
 use Rattle.rule.specs.Stream.{Stream, access, fence, accesses, fences}
 use Rattle.rule.specs.Pairs.{Model, settled}
 
+-- a way's number in a call and in an image
+abbrev pub wayNumber : Way → ℕ
+wayNumber Way.Sparing = 0
+wayNumber Way.Full = 1
+
 -- the lowest number of n, counted from i, at which the test passes
 abbrev pub lowest : (ℕ → Bool) → ℕ → ℕ → Choice
 lowest f i zero = Choice.Refused

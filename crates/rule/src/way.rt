@@ -4,7 +4,7 @@ ghost use Prim.Native.Nat.{ℕ};
 ghost use lib.ListN.{length};
 ghost use Rattle.tables.specs.Table.{atLeast};
 ghost use Rattle.rule.specs.Pairs.{tableAt};
-ghost use Rattle.rule.specs.Rule.{lowest, last};
+ghost use Rattle.rule.specs.Rule.{wayNumber, lowest, last};
 ghost use Rattle.rule.specs.Situation.{choiceOf, stepped};
 use crate::operation::Kind;
 use crate::situation::Situation;
@@ -27,6 +27,16 @@ pub enum Step {
     Plain(Situation),
     Fenced(usize, Situation),
     Refused,
+}
+
+// A way's number in a call and in an image.
+pub fn way_number(way: Way) -> u64
+    ensures { λ r. ⌜ r ≡ wayNumber way ⌝ }
+{
+    match way {
+        Way::Sparing => 0,
+        Way::Full => 1,
+    }
 }
 
 // The table of a fence; one that is not there orders nothing.

@@ -16,7 +16,7 @@ use Rattle.machine.proofs.explore.explore.Reads as explore-reads
 use Rattle.machine.proofs.named.Reads as named-reads
 use Rattle.machine.proofs.refine.refine.Reads as refine-reads
 use Rattle.machine.proofs.rows.write_rows.Reads as write-rows-reads
-use Rattle.machine.proofs.way_number.Reads as way-number-reads
+use Rattle.rule.proofs.way.way_number.Reads as way-number-reads
 
 named-requires : tie.Need-named-requires
 named-requires c κs = search needs

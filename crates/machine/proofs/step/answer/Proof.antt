@@ -1,3 +1,4 @@
+use mathlib.Core.Path.{refl}
 use borrow.Author.Needs.{needs}
 use borrow.Author.Tests.{lt-ltb, le-ltb}
 use Rattle.machine.proofs.step.answer.Statement.{statement}
@@ -20,7 +21,9 @@ put-before-requires : tie.Need-put-before-requires
 put-before-requires c κs = search needs
 
 returns : tie.Need-returns
-returns c = simp (lt-ltb _ _ (c .before .before .before .if1 .taken)) (cc)
+returns c =
+    rw (lt-ltb _ _ (c .before .before .before .if1 .taken), ← c .before .before .kind-of .ensures, ← c .before .take .ensures)
+    (c .put-before .ensures)
 
 fence-table-requires : tie.Need-fence-table-requires
 fence-table-requires c κs = search needs
@@ -29,7 +32,7 @@ asks-requires : tie.Need-asks-requires
 asks-requires c κs = search needs
 
 returns-2 : tie.Need-returns-2
-returns-2 c = simp (le-ltb _ _ (c .before .before .if1 .left)) (cc)
+returns-2 c = rw (le-ltb _ _ (c .before .before .if1 .left), c .asks .ensures, c .before .fence-table .ensures) refl
 
 pub answer-spec : {M : Type 1} → statement M
 answer-spec =
