@@ -12,6 +12,4 @@ pub mod Pushed
 pub mod Words
 pub mod Putting
 pub mod RoundTrip
-pub mod BuiltIns
-pub mod Compared
 pub mod WrittenBack

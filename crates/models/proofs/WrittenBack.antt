@@ -1,26 +1,18 @@
--- What the calls write: the text that was read, or that of the built-in model. Assumes nothing.
-use Prim.Native.Nat.{ℕ, _<_}
+-- What is written after a reading, and that reading and writing back writes the text itself. Assumes nothing.
+use Prim.Native.Nat.{ℕ}
 use mathlib.Core.Path.{_≡_, refl, sym, ap, _∙_}
-use mathlib.Core.List.{List, [], map}
-use native.Mathlib.Omega.{arith}
-use native.Mathlib.Decide.{decLt}
-use borrow.Author.Tests.{lt-ltb, le-ltb}
-use lib.ListN.{length, getD, List·getD-map}
-use Rattle.tables.specs.Table.{choose, table}
+use mathlib.Core.List.{List}
+use lib.ListN.{length}
 use Rattle.answers.specs.declared.Refusal.{Refusal}
 use Rattle.answers.specs.declared.Answer.{Answer}
 use Rattle.answers.specs.Written.{written, writing}
-use Rattle.models.specs.declared.model.Model.{Model}
 use Rattle.models.specs.declared.model.Verdict.{Verdict}
 use Rattle.models.specs.declared.model.Reading.{Reading}
-use Rattle.models.specs.Model.{Description}
 use Rattle.models.specs.Text.{textOf}
-use Rattle.models.specs.Reading.{tableIn, held, accepting, refusing, reading}
-use Rattle.models.specs.Writing.{unfilled, fencesOf, described}
-use Rattle.models.specs.BuiltIns.{rows, under, none, model, builtIns, builtIn, builtInReading}
+use Rattle.models.specs.Reading.{accepting, reading}
+use Rattle.models.specs.Writing.{described}
 use Rattle.models.specs.Calls.{answerAfter, bufferAfter}
 use Rattle.models.proofs.RoundTrip.{written-read}
-use Rattle.models.proofs.BuiltIns.{row-is, answered, out-of-range}
 
 -- a function of the verdict and the text, of which the text counts only where the verdict is Accepted
 module _ {A : Type 0} (f : Verdict → List ℕ → A) (same : (why : Refusal) (x y : List ℕ) → f (Verdict.Refused why) x ≡ f (Verdict.Refused why) y) where
@@ -50,43 +42,19 @@ module _ (out : List ℕ) where
   unfolding bufferAfter
   buffer-same why x y = refl
 
+  pub answer-settled : (r : Reading) (x y : List ℕ) → (r ≡ accepting (r .model) → x ≡ y) → answerAfter (r .verdict) x out ≡ answerAfter (r .verdict) y out
+  answer-settled = settled (λ v x. answerAfter v x out) answer-same
+
+  pub buffer-settled : (r : Reading) (x y : List ℕ) → (r ≡ accepting (r .model) → x ≡ y) → bufferAfter (r .verdict) x out ≡ bufferAfter (r .verdict) y out
+  buffer-settled = settled (λ v x. bufferAfter v x out) buffer-same
+
   -- reading and writing back writes the text itself
   module _ (t : List ℕ) where
     back : reading t ≡ accepting (reading t .model) → textOf (described (reading t .model)) ≡ t
     back e = written-read t (reading t .model) e
 
     pub answer-back : answerAfter (reading t .verdict) (textOf (described (reading t .model))) out ≡ answerAfter (reading t .verdict) t out
-    answer-back = settled (λ v x. answerAfter v x out) answer-same (reading t) _ _ back
+    answer-back = answer-settled (reading t) _ _ back
 
     pub buffer-back : bufferAfter (reading t .verdict) (textOf (described (reading t .model))) out ≡ bufferAfter (reading t .verdict) t out
-    buffer-back = settled (λ v x. bufferAfter v x out) buffer-same (reading t) _ _ back
-
--- what is held of a built-in model is the model: one computed test over all of them
-all-described : map (λ (d : Description). described (held d)) builtIns ≡ builtIns
-unfolding builtIns rows under tableIn table unfilled fencesOf
-all-described = refl
-
-built-described : (n : ℕ) → described (held (builtIn n)) ≡ builtIn n
-unfolding builtIn rows under tableIn table unfilled fencesOf
-built-described n =
-    sym (List·getD-map (λ (d : Description). described (held d)) builtIns n (model "" none []))
-    ∙ ap (λ (l : List Description). getD l n (model "" none [])) all-described
-
-built-back : (n : ℕ) → builtInReading n ≡ accepting (builtInReading n .model) → textOf (described (builtInReading n .model)) ≡ textOf (builtIn n)
-built-back n e = by (decLt 15 n)
-  where
-    by : Dec (15 < n) → textOf (described (builtInReading n .model)) ≡ textOf (builtIn n)
-    by (yes l) =
-        let v : Verdict.Refused Refusal.OutOfRange ≡ Verdict.Accepted = ap (λ (r : Reading). r .verdict) (out-of-range n l ∙ e) in
-        let z : _≡_ {A = ℕ} 0 1 = cc in
-        absurd (omega arith)
-    by (no g) =
-        ap (λ (r : Reading). textOf (described (r .model))) (sym (answered n (held (builtIn n)) (omega arith) (sym (row-is n (omega arith)))))
-        ∙ ap textOf (built-described n)
-
-module _ (out : List ℕ) (n : ℕ) where
-  pub answer-built : answerAfter (builtInReading n .verdict) (textOf (described (builtInReading n .model))) out ≡ answerAfter (builtInReading n .verdict) (textOf (builtIn n)) out
-  answer-built = settled (λ v x. answerAfter v x out) (answer-same out) (builtInReading n) _ _ (built-back n)
-
-  pub buffer-built : bufferAfter (builtInReading n .verdict) (textOf (described (builtInReading n .model))) out ≡ bufferAfter (builtInReading n .verdict) (textOf (builtIn n)) out
-  buffer-built = settled (λ v x. bufferAfter v x out) (buffer-same out) (builtInReading n) _ _ (built-back n)
+    buffer-back = buffer-settled (reading t) _ _ back

@@ -5,7 +5,4 @@ pub mod Form
 pub mod Scan
 pub mod Reading
 pub mod Writing
-pub mod BuiltIns
 pub mod Calls
-pub mod Comparison
-pub mod Numbers

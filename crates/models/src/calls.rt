@@ -3,16 +3,15 @@ ghost use mathlib.Core.Path.{_≡_};
 ghost use Rattle.models.specs.Text.{textOf};
 ghost use Rattle.models.specs.Reading.{reading};
 ghost use Rattle.models.specs.Writing.{described};
-ghost use Rattle.models.specs.BuiltIns.{builtIn, builtInReading};
 ghost use Rattle.models.specs.Calls.{answerAfter, bufferAfter};
-use crate::built_ins;
 use crate::model::Reading;
 use crate::model::Verdict;
 use crate::reader;
 use crate::writer;
 use answers::Answer;
 
-fn write_reading(r: Reading, out: &mut [u8]) -> Answer
+// Writes the text of a model that was read or made, or tells why there is none.
+pub fn write_reading(r: Reading, out: &mut [u8]) -> Answer
     ensures { λ a. ⌜ a ≡ answerAfter (r .verdict) (textOf (described (r .model))) (now (out .entry)) ⌝ }
     ensures { λ _. ⌜ now (out .exit) ≡ bufferAfter (r .verdict) (textOf (described (r .model))) (now (out .entry)) ⌝ }
 {
@@ -30,12 +29,4 @@ pub fn rewrite(text: &[u8], out: &mut [u8]) -> Answer
     ensures buffer { λ _. ⌜ now (out .exit) ≡ bufferAfter (reading (now (text .entry)) .verdict) (now (text .entry)) (now (out .entry)) ⌝ }
 {
     write_reading(reader::read(text), out)
-}
-
-// Writes the text of a built-in model.
-pub fn write_built_in(number: u64, out: &mut [u8]) -> Answer
-    ensures answer { λ a. ⌜ a ≡ answerAfter (builtInReading number .verdict) (textOf (builtIn number)) (now (out .entry)) ⌝ }
-    ensures buffer { λ _. ⌜ now (out .exit) ≡ bufferAfter (builtInReading number .verdict) (textOf (builtIn number)) (now (out .entry)) ⌝ }
-{
-    write_reading(built_ins::built_in(number), out)
 }

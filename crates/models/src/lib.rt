@@ -1,8 +1,6 @@
-// Models as text: the reader, the writer, the built-in models and the comparison of two models.
-pub mod built_ins;
+// Models as text: the reader and the writer.
 pub mod calls;
-pub mod comparison;
-mod held;
+pub mod held;
 pub mod model;
 pub mod reader;
 mod scan;

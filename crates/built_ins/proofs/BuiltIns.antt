@@ -10,12 +10,12 @@ use lib.ListN.{length, getD, set, take, drop, replicate, length-drop, List·getD
 use lib.Seq.{take-all, length-take-le}
 use Rattle.tables.specs.Table.{choose, table}
 use Rattle.answers.specs.declared.Refusal.{Refusal}
 use Rattle.models.specs.declared.model.Name.{Name}
 use Rattle.models.specs.declared.model.Model.{Model}
 use Rattle.models.specs.Model.{Description}
 use Rattle.models.specs.Reading.{filled, bare, held, tableIn, accepting, refusing}
-use Rattle.models.specs.Numbers.{number, nameBytes, modelNumbers, nameFrom, modelFrom}
-use Rattle.models.specs.BuiltIns.{rows, under, none, model, builtIns, builtIn, builtInReading}
+use Rattle.built_ins.specs.Numbers.{number, nameBytes, modelNumbers, nameFrom, modelFrom}
+use Rattle.built_ins.specs.BuiltIns.{rows, under, none, model, builtIns, builtIn, builtInReading}
 
 -- what a function gives at 0 up to n
 upTo : {A : Type 0} → ℕ → (ℕ → A) → List A

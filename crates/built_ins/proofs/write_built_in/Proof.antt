@@ -1,14 +1,14 @@
 -- `write_built_in` meets its contract. Assumes nothing.
 use mathlib.Core.Path.{_≡_, sym, ap, ap₂, _∙_}
 use denote.Ref.{now}
 use Rattle.models.specs.declared.model.Reading.{Reading}
 use Rattle.models.specs.Text.{textOf}
 use Rattle.models.specs.Writing.{described}
 use Rattle.models.specs.Calls.{answerAfter, bufferAfter}
-use Rattle.models.proofs.WrittenBack.{answer-built, buffer-built}
+use Rattle.built_ins.proofs.BuiltText.{answer-built, buffer-built}
 use borrow.Author.Needs.{needs}
-use Rattle.models.proofs.calls.write_built_in.Statement.{statement}
-use Rattle.models.proofs.calls.write_built_in.Tie as tie
+use Rattle.built_ins.proofs.write_built_in.Statement.{statement}
+use Rattle.built_ins.proofs.write_built_in.Tie as tie
 
 built-in-requires : tie.Need-built-in-requires
 built-in-requires c κs = search needs

@@ -1,10 +1,10 @@
 -- `compare_tables` meets its contract: each `return` by the two tests that led there. Assumes nothing.
 use mathlib.Core.Path.{refl, sym, _∙_}
 use mathlib.Core.Bool.{true, false}
-use Rattle.models.proofs.Compared.{decided}
+use Rattle.comparison.proofs.Words.{decided}
 use borrow.Author.Needs.{needs}
-use Rattle.models.proofs.comparison.compare_tables.Statement.{statement}
-use Rattle.models.proofs.comparison.compare_tables.Tie as tie
+use Rattle.comparison.proofs.compare_tables.Statement.{statement}
+use Rattle.comparison.proofs.compare_tables.Tie as tie
 
 at-least-requires : tie.Need-at-least-requires
 at-least-requires c κs = search needs

@@ -1,12 +1,12 @@
 -- `compare_with` meets its contract. Assumes nothing.
 use mathlib.Core.Path.{sym, ap, _∙_}
 use Rattle.tables.specs.declared.table.Table.{Table}
 use Rattle.models.specs.declared.model.Verdict.{Verdict}
-use Rattle.models.specs.declared.comparison.Compared.{Compared}
-use Rattle.models.specs.Comparison.{comparedBoth}
+use Rattle.comparison.specs.declared.Compared.{Compared}
+use Rattle.comparison.specs.Comparison.{comparedBoth}
 use borrow.Author.Needs.{needs}
-use Rattle.models.proofs.comparison.compare_with.Statement.{statement}
-use Rattle.models.proofs.comparison.compare_with.Tie as tie
+use Rattle.comparison.proofs.compare_with.Statement.{statement}
+use Rattle.comparison.proofs.compare_with.Tie as tie
 
 enum-known-verdict : tie.Need-enum-known-verdict
 enum-known-verdict c = search needs

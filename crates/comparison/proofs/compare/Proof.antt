@@ -1,15 +1,15 @@
 -- `compare` meets its contract. Assumes nothing.
 use mathlib.Core.Path.{_≡_, sym, ap, ap₂, _∙_}
 use denote.Ref.{now}
 use Rattle.models.specs.declared.model.Reading.{Reading}
 use Rattle.tables.specs.declared.table.Table.{Table}
 use Rattle.models.specs.declared.model.Verdict.{Verdict}
-use Rattle.models.specs.declared.comparison.Compared.{Compared}
+use Rattle.comparison.specs.declared.Compared.{Compared}
 use Rattle.models.specs.Reading.{reading}
-use Rattle.models.specs.Comparison.{comparedBoth, comparedFirst, comparing}
+use Rattle.comparison.specs.Comparison.{comparedBoth, comparedFirst, comparing}
 use borrow.Author.Needs.{needs}
-use Rattle.models.proofs.comparison.compare.Statement.{statement}
-use Rattle.models.proofs.comparison.compare.Tie as tie
+use Rattle.comparison.proofs.compare.Statement.{statement}
+use Rattle.comparison.proofs.compare.Tie as tie
 
 read-requires : tie.Need-read-requires
 read-requires c κs = search needs

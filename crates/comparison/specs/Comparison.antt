@@ -7,11 +7,11 @@ use Rattle.tables.specs.declared.table.Table.{Table}
 use Rattle.tables.specs.declared.table.Row.{Row}
 use Rattle.tables.specs.declared.table.Column.{Column}
 use Rattle.tables.specs.Table.{cell, choose, atLeast}
 use Rattle.models.specs.declared.model.Verdict.{Verdict}
 use Rattle.models.specs.declared.model.Reading.{Reading}
-use Rattle.models.specs.declared.comparison.Comparison.{Comparison}
-use Rattle.models.specs.declared.comparison.Compared.{Compared}
+use Rattle.comparison.specs.declared.Comparison.{Comparison}
+use Rattle.comparison.specs.declared.Compared.{Compared}
 use Rattle.models.specs.Reading.{reading}
 
 abbrev pub Same : Table → Table → Type 0
 Same a b = (r : Row) (c : Column) → cell a r c ≡ cell b r c

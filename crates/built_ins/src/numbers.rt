@@ -1,14 +1,10 @@
-// The sixteen built-in models: a table of numbers, and the names that it counts.
+// The tables of the built-in models: their numbers, and the names that these count. Private: a row is asked for by its number below 16.
 ghost use mathlib.Core.Path.{_≡_};
 ghost use Prim.Native.Nat.{ℕ, _%_, _<_};
-ghost use Rattle.models.specs.Numbers.{nameFrom, modelFrom};
-ghost use Rattle.models.specs.BuiltIns.{builtInReading};
-use crate::held;
-use crate::model::Model;
-use crate::model::Name;
-use crate::model::Reading;
-use crate::model::Verdict;
-use answers::Refusal;
+ghost use Rattle.built_ins.specs.Numbers.{nameFrom, modelFrom};
+use models::held;
+use models::model::Model;
+use models::model::Name;
 use tables::table::Table;
 
 // Sixteen bytes to a name. The last is that of no fence.
@@ -424,10 +420,10 @@ fn built_name(index: u64) -> Name
 {
     let names = NAMES;
     let start = (index % 16) as usize * 16;
-    held::first_bytes(&names[start..], 16)
+    held::first_bytes(&names[start..])
 }
 
-fn built_model(n: usize) -> Model
+pub fn built_model(n: usize) -> Model
     requires { ⌜ n < 16 ⌝ }
     ensures { λ r. ⌜ r ≡ modelFrom n ⌝ }
 {
@@ -449,18 +445,4 @@ fn built_model(n: usize) -> Model
     model.names[1] = second;
     model.names[2] = third;
     model
-}
-
-// The built-in model of a number.
-pub fn built_in(number: u64) -> Reading
-    ensures { λ r. ⌜ r ≡ builtInReading number ⌝ }
-{
-    if 15 < number {
-        return held::refuse(Refusal::OutOfRange);
-    }
-    let model = built_model(number as usize);
-    Reading {
-        verdict: Verdict::Accepted,
-        model,
-    }
 }

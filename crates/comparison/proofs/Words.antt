@@ -11,8 +11,8 @@ use Rattle.tables.specs.declared.table.Row.{Row}
 use Rattle.tables.specs.declared.table.Column.{Column}
 use Rattle.tables.specs.Table.{cell, choose, atLeast}
 use Rattle.tables.proofs.Laws.{at-least-cells, cells-at-least}
-use Rattle.models.specs.declared.comparison.Comparison.{Comparison}
-use Rattle.models.specs.Comparison.{Same, NoneLower, SomeHigher, Stronger, Compares, equal, first, second, neither, comparison}
+use Rattle.comparison.specs.declared.Comparison.{Comparison}
+use Rattle.comparison.specs.Comparison.{Same, NoneLower, SomeHigher, Stronger, Compares, equal, first, second, neither, comparison}
 
 -- every cell of the first is at most that of the second, or one is higher: column by column, row by row
 module _ (P : Column → Type 0) (Q : Type 0) where

@@ -1,10 +1,10 @@
 -- `built_in` meets its contract. Assumes nothing.
 use mathlib.Core.Path.{_∙_}
 use native.Mathlib.Omega.{arith}
-use Rattle.models.proofs.BuiltIns.{answered, out-of-range}
+use Rattle.built_ins.proofs.BuiltIns.{answered, out-of-range}
 use borrow.Author.Needs.{needs}
-use Rattle.models.proofs.built_ins.built_in.Statement.{statement}
-use Rattle.models.proofs.built_ins.built_in.Tie as tie
+use Rattle.built_ins.proofs.built_in.Statement.{statement}
+use Rattle.built_ins.proofs.built_in.Tie as tie
 
 refuse-requires : tie.Need-refuse-requires
 refuse-requires c κs = search needs

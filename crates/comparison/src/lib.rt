@@ -1,10 +1,9 @@
 // The comparison of two models by their default tables.
 ghost use mathlib.Core.Path.{_≡_};
-ghost use Rattle.models.specs.Comparison.{numberOf, comparison, Compares, comparing, comparedBoth};
-use crate::model::Reading;
-use crate::model::Verdict;
-use crate::reader;
+ghost use Rattle.comparison.specs.Comparison.{numberOf, comparison, Compares, comparing, comparedBoth};
 use answers::Refusal;
+use models::model::Reading;
+use models::model::Verdict;
 use tables::table::Table;
 
 pub enum Comparison {
@@ -63,11 +62,11 @@ fn compare_with(first: Table, second: Reading) -> Compared
 pub fn compare(first: &[u8], second: &[u8]) -> Compared
     ensures { λ r. ⌜ r ≡ comparing (now (first .entry)) (now (second .entry)) ⌝ }
 {
-    let r = reader::read(first);
+    let r = models::reader::read(first);
     let verdict = r.verdict;
     let model = r.model;
     match verdict {
         Verdict::Refused(why) => Compared::Refused(why),
-        Verdict::Accepted => compare_with(model.ppo, reader::read(second)),
+        Verdict::Accepted => compare_with(model.ppo, models::reader::read(second)),
     }
 }

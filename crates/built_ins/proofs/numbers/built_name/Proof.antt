@@ -3,11 +3,11 @@ use mathlib.Core.Path.{_∙_}
 use Prim.Native.Nat.{_%_}
 use native.Mathlib.Nat.{mod-lt}
 use native.Mathlib.Omega.{arith}
-use Rattle.models.specs.Numbers.{nameBytes}
-use Rattle.models.proofs.BuiltIns.{name-at}
+use Rattle.built_ins.specs.Numbers.{nameBytes}
+use Rattle.built_ins.proofs.BuiltIns.{name-at}
 use borrow.Author.Needs.{needs}
-use Rattle.models.proofs.built_ins.built_name.Statement.{statement}
-use Rattle.models.proofs.built_ins.built_name.Tie as tie
+use Rattle.built_ins.proofs.numbers.built_name.Statement.{statement}
+use Rattle.built_ins.proofs.numbers.built_name.Tie as tie
 
 mul-start : tie.Need-mul-start
 mul-start c = search needs
