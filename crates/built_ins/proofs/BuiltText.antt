@@ -12,9 +12,9 @@ use Rattle.models.specs.declared.model.Reading.{Reading}
 use Rattle.models.specs.Model.{Description}
 use Rattle.models.specs.Text.{textOf}
 use Rattle.models.specs.Reading.{tableIn, held, accepting}
-use Rattle.models.specs.Writing.{unfilled, fencesOf, described}
-use Rattle.models.specs.Calls.{answerAfter, bufferAfter}
-use Rattle.models.proofs.WrittenBack.{answer-settled, buffer-settled}
+use Rattle.writing.specs.Writing.{unfilled, fencesOf, described}
+use Rattle.writing.specs.Calls.{answerAfter, bufferAfter}
+use Rattle.writing.proofs.WrittenBack.{answer-settled, buffer-settled}
 use Rattle.built_ins.specs.BuiltIns.{rows, under, none, model, builtIns, builtIn, builtInReading}
 use Rattle.built_ins.proofs.BuiltIns.{row-is, answered, out-of-range}
 

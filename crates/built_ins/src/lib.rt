@@ -3,11 +3,10 @@ mod numbers;
 
 ghost use mathlib.Core.Path.{_≡_};
 ghost use Rattle.models.specs.Text.{textOf};
-ghost use Rattle.models.specs.Calls.{answerAfter, bufferAfter};
+ghost use Rattle.writing.specs.Calls.{answerAfter, bufferAfter};
 ghost use Rattle.built_ins.specs.BuiltIns.{builtIn, builtInReading};
 use answers::Answer;
 use answers::Refusal;
-use models::calls;
 use models::held;
 use models::model::Reading;
 use models::model::Verdict;
@@ -31,5 +30,5 @@ pub fn write_built_in(number: u64, out: &mut [u8]) -> Answer
     ensures answer { λ a. ⌜ a ≡ answerAfter (builtInReading number .verdict) (textOf (builtIn number)) (now (out .entry)) ⌝ }
     ensures buffer { λ _. ⌜ now (out .exit) ≡ bufferAfter (builtInReading number .verdict) (textOf (builtIn number)) (now (out .entry)) ⌝ }
 {
-    calls::write_reading(built_in(number), out)
+    writing::write_reading(built_in(number), out)
 }

@@ -6,7 +6,7 @@ ghost use Rattle.answers.specs.Answer.{numbersOf};
 ghost use Rattle.models.specs.Text.{textOf};
 ghost use Rattle.models.specs.Reading.{reading};
 ghost use Rattle.built_ins.specs.BuiltIns.{builtIn, builtInReading};
-ghost use Rattle.models.specs.Calls.{answerAfter, bufferAfter};
+ghost use Rattle.writing.specs.Calls.{answerAfter, bufferAfter};
 ghost use Rattle.comparison.specs.Comparison.{comparing};
 ghost use Rattle.runs.specs.Call.{outcome, answerOf, bufferOf};
 ghost use Rattle.image.specs.Run.{runOver};
@@ -43,7 +43,7 @@ pub extern "C" fn shim_model(text: &[u8], out: &mut [u8], answer: &mut [u64; 5])
     ensures answer { λ _. ⌜ now (answer .exit) ≡ numbersOf (answerAfter (reading (now (text .entry)) .verdict) (now (text .entry)) (now (out .entry))) ⌝ }
     ensures buffer { λ _. ⌜ now (out .exit) ≡ bufferAfter (reading (now (text .entry)) .verdict) (now (text .entry)) (now (out .entry)) ⌝ }
 {
-    tell(models::calls::rewrite(text, out), answer)
+    tell(writing::rewrite(text, out), answer)
 }
 
 #[no_mangle]

@@ -32,9 +32,9 @@ fn front(bytes: &[u8], n: usize) -> &[u8] {
 // Writes a text back to the front of a buffer.
 fn rewrite_front(text: &[u8], out: &mut [u8], room: usize) -> Answer {
     if room <= out.len() {
-        return models::calls::rewrite(text, &mut out[..room]);
+        return writing::rewrite(text, &mut out[..room]);
     }
-    models::calls::rewrite(text, out)
+    writing::rewrite(text, out)
 }
 
 // Whether every byte from a place on is the one that the buffer was filled with.

@@ -10,6 +10,3 @@ pub mod Reread
 pub mod Names
 pub mod Pushed
 pub mod Words
-pub mod Putting
-pub mod RoundTrip
-pub mod WrittenBack

@@ -4,5 +4,3 @@ pub mod Text
 pub mod Form
 pub mod Scan
 pub mod Reading
-pub mod Writing
-pub mod Calls

@@ -1,7 +1,5 @@
-// Models as text: the reader and the writer.
-pub mod calls;
+// Models: how one is held, and how its text is read.
 pub mod held;
 pub mod model;
 pub mod reader;
 mod scan;
-pub mod writer;

@@ -3,8 +3,8 @@ use mathlib.Core.Path.{_≡_, sym, ap, ap₂, _∙_}
 use denote.Ref.{now}
 use Rattle.models.specs.declared.model.Reading.{Reading}
 use Rattle.models.specs.Text.{textOf}
-use Rattle.models.specs.Writing.{described}
-use Rattle.models.specs.Calls.{answerAfter, bufferAfter}
+use Rattle.writing.specs.Writing.{described}
+use Rattle.writing.specs.Calls.{answerAfter, bufferAfter}
 use Rattle.built_ins.proofs.BuiltText.{answer-built, buffer-built}
 use borrow.Author.Needs.{needs}
 use Rattle.built_ins.proofs.write_built_in.Statement.{statement}
