@@ -6,8 +6,8 @@ use mathlib.Core.List.{List}
 use Rattle.answers.specs.declared.Answer.{Answer}
 use Rattle.answers.specs.declared.Refusal.{Refusal}
 use Rattle.answers.specs.Answer.{numberOf, numbersOf}
-use Rattle.models.specs.declared.comparison.Compared.{Compared}
-use Rattle.models.specs.Comparison as Comparison
+use Rattle.comparison.specs.declared.Compared.{Compared}
+use Rattle.comparison.specs.Comparison as Comparison
 
 abbrev pub numberIn : Answer → ℕ
 numberIn (Answer.Done written fences state) = 0

@@ -5,9 +5,9 @@ ghost use lib.ListN.{length};
 ghost use Rattle.answers.specs.Answer.{numbersOf};
 ghost use Rattle.models.specs.Text.{textOf};
 ghost use Rattle.models.specs.Reading.{reading};
-ghost use Rattle.models.specs.BuiltIns.{builtIn, builtInReading};
-ghost use Rattle.models.specs.Calls.{answerAfter, bufferAfter};
-ghost use Rattle.models.specs.Comparison.{comparing};
+ghost use Rattle.built_ins.specs.BuiltIns.{builtIn, builtInReading};
+ghost use Rattle.writing.specs.Calls.{answerAfter, bufferAfter};
+ghost use Rattle.comparison.specs.Comparison.{comparing};
 ghost use Rattle.runs.specs.Call.{outcome, answerOf, bufferOf};
 ghost use Rattle.image.specs.Run.{runOver};
 ghost use Rattle.image.specs.Calls.{writtenBack, headerAs};
@@ -16,7 +16,7 @@ ghost use Rattle.generation.specs.Generating.{ImageGiven};
 ghost use Rattle.listing.specs.Listed.{Listed};
 ghost use Rattle.host.specs.Border.{numberIn, relationOf, comparedAs, Tells};
 use answers::Answer;
-use models::comparison::Compared;
+use comparison::Compared;
 
 // Sets the five numbers, and returns the first of them, the refusal's number.
 fn tell(what: Answer, answer: &mut [u64; 5]) -> u64
@@ -34,7 +34,7 @@ pub extern "C" fn shim_builtin(number: u64, out: &mut [u8], answer: &mut [u64; 5
     ensures answer { λ _. ⌜ now (answer .exit) ≡ numbersOf (answerAfter (builtInReading number .verdict) (textOf (builtIn number)) (now (out .entry))) ⌝ }
     ensures buffer { λ _. ⌜ now (out .exit) ≡ bufferAfter (builtInReading number .verdict) (textOf (builtIn number)) (now (out .entry)) ⌝ }
 {
-    tell(models::calls::write_built_in(number, out), answer)
+    tell(built_ins::write_built_in(number, out), answer)
 }
 
 #[no_mangle]
@@ -43,7 +43,7 @@ pub extern "C" fn shim_model(text: &[u8], out: &mut [u8], answer: &mut [u64; 5])
     ensures answer { λ _. ⌜ now (answer .exit) ≡ numbersOf (answerAfter (reading (now (text .entry)) .verdict) (now (text .entry)) (now (out .entry))) ⌝ }
     ensures buffer { λ _. ⌜ now (out .exit) ≡ bufferAfter (reading (now (text .entry)) .verdict) (now (text .entry)) (now (out .entry)) ⌝ }
 {
-    tell(models::calls::rewrite(text, out), answer)
+    tell(writing::rewrite(text, out), answer)
 }
 
 #[no_mangle]
@@ -128,7 +128,7 @@ pub extern "C" fn shim_compare<'a>(
     ensures relation { λ _. ⌜ now (relation .exit) ≡ relationOf (comparing (now (first .entry)) (now (second .entry))) ⌝ }
     ensures answer { λ _. ⌜ now (answer .exit) ≡ numbersOf (comparedAs (comparing (now (first .entry)) (now (second .entry)))) ⌝ }
 {
-    let compared = models::comparison::compare(first, second);
+    let compared = comparison::compare(first, second);
     *relation = relation_in(compared);
     tell(as_answer(compared), answer)
 }

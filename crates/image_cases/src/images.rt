@@ -28,9 +28,9 @@ pub fn repeated(byte: u8) -> [u8; 4097]
 // Two built-in models, or their refusal.
 pub fn generated(way: u64, upstream: u64, target: u64, out: &mut [u8]) -> Answer {
     let mut one = zeros();
-    let first = models::calls::write_built_in(upstream, &mut one);
+    let first = built_ins::write_built_in(upstream, &mut one);
     let mut two = zeros();
-    let second = models::calls::write_built_in(target, &mut two);
+    let second = built_ins::write_built_in(target, &mut two);
     generation::generate(
         way,
         crate::show::front(&one, crate::show::written(first)),

@@ -9,8 +9,8 @@ use borrow.Author.Tests.{lt-ltb, le-ltb, ltb-true, ltb-false}
 use lib.Dec.{ltb}
 use lib.ListN.{length, length-append}
 use Rattle.tables.specs.Table.{choose}
-use Rattle.models.specs.Writing.{Put}
-use Rattle.models.proofs.Putting.{nothing-put}
+use Rattle.writing.specs.Writing.{Put}
+use Rattle.writing.proofs.Putting.{nothing-put}
 use Rattle.listing.specs.Decimal.{digit, digits, decimal}
 
 -- digits enough are as good as more

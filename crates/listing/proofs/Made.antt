@@ -13,7 +13,7 @@ use Rattle.models.specs.declared.model.Model.{Model}
 use Rattle.models.specs.declared.model.Verdict.{Verdict}
 use Rattle.models.specs.declared.model.Reading.{Reading}
 use Rattle.models.specs.Reading.{reading, Told}
-use Rattle.models.specs.Writing.{unfilled}
+use Rattle.writing.specs.Writing.{unfilled}
 use Rattle.runs.proofs.Whole.{whole-when}
 use Rattle.runs.specs.Bytes.{isFence, fenceBytes}
 use Rattle.machine.specs.declared.machine.Machine.{Machine}

@@ -14,8 +14,8 @@ use Rattle.tables.specs.Table.{choose}
 use Rattle.rule.specs.declared.operation.Operation.{Operation}
 use Rattle.rule.specs.Operation.{fenceByte, written}
 use Rattle.models.specs.Bytes.{bytes}
-use Rattle.models.specs.Writing.{Put, unfilled}
-use Rattle.models.proofs.Putting.{put-then, put-is, nothing-put}
+use Rattle.writing.specs.Writing.{Put, unfilled}
+use Rattle.writing.proofs.Putting.{put-then, put-is, nothing-put}
 use Rattle.mealy.specs.Runs.{Answer, refused, taken}
 use Rattle.mealy.specs.Arrivals.{within}
 use Rattle.machine.specs.Shim.{kindOf, operationOf}

@@ -12,7 +12,7 @@ use Rattle.rule.proofs.Choices.{differ}
 use Rattle.models.specs.declared.model.Model.{Model}
 use Rattle.models.specs.Reading.{reading}
 use Rattle.models.specs.Bytes.{bytes}
-use Rattle.models.specs.Writing.{unfilled}
+use Rattle.writing.specs.Writing.{unfilled}
 use Rattle.runs.specs.Bytes.{fenceBytes, put as ran, refuse as stopped}
 use Rattle.mealy.specs.Runs.{Answer as Told, Machine, Same}
 use Rattle.mealy.specs.Arrivals.{AtMost, Described}

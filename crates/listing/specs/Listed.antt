@@ -12,7 +12,7 @@ use Rattle.rule.specs.declared.situation.Situation.{Situation}
 use Rattle.rule.specs.declared.way.Way.{Way}
 use Rattle.models.specs.declared.model.Model.{Model}
 use Rattle.models.specs.Reading.{reading}
-use Rattle.models.specs.Writing.{unfilled}
+use Rattle.writing.specs.Writing.{unfilled}
 use Rattle.runs.specs.Bytes.{Outcome, put as ran, refuse as stopped, fenceBytes}
 use Rattle.runs.specs.Call.{modelOf, under}
 use Rattle.mealy.specs.Runs.{Answer as Told, Machine, Same}

@@ -10,7 +10,7 @@ use Rattle.models.specs.declared.model.Model.{Model}
 use Rattle.models.specs.declared.model.Verdict.{Verdict}
 use Rattle.models.specs.declared.model.Name.{Name}
 use Rattle.models.specs.Reading.{reading}
-use Rattle.models.specs.Writing.{unfilled}
+use Rattle.writing.specs.Writing.{unfilled}
 use Rattle.runs.specs.Bytes.{fenceBytes}
 use Rattle.machine.specs.declared.machine.Outcome.{Outcome}
 use Rattle.machine.specs.Rows.{rowOf}

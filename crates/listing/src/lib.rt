@@ -6,7 +6,7 @@ ghost use mathlib.Core.Path.{_≡_};
 ghost use Prim.Native.Nat.{_+_};
 ghost use lib.ListN.{length};
 ghost use Rattle.answers.specs.Written.{written, writing};
-ghost use Rattle.models.specs.Writing.{unfilled};
+ghost use Rattle.writing.specs.Writing.{unfilled};
 ghost use Rattle.machine.specs.Rows.{rowOf};
 ghost use Rattle.listing.specs.Buffer.{Listable};
 ghost use Rattle.listing.specs.Printed.{listing, refusalLine};

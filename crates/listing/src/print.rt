@@ -5,7 +5,7 @@ ghost use Prim.Native.Nat.{_+_, _*_, _≤_, _<_};
 ghost use lib.ListN.{length};
 ghost use Rattle.rule.specs.Operation.{written};
 ghost use Rattle.models.specs.Bytes.{bytes};
-ghost use Rattle.models.specs.Writing.{Put, unfilled};
+ghost use Rattle.writing.specs.Writing.{Put, unfilled};
 ghost use Rattle.machine.specs.Shim.{operationOf};
 ghost use Rattle.machine.specs.Rows.{decoded, rowOf};
 ghost use Rattle.listing.specs.Buffer.{Room, Listable};

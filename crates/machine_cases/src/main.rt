@@ -62,8 +62,8 @@ fn print_outcome(outcome: Outcome) {
 }
 
 fn built_in_pair(way: u64, upstream: u64, target: u64) {
-    let one = models::built_ins::built_in(upstream);
-    let two = models::built_ins::built_in(target);
+    let one = built_ins::built_in(upstream);
+    let two = built_ins::built_in(target);
     let from = one.model;
     let onto = two.model;
     let mut rows = [0u16; WORDS];
@@ -167,8 +167,8 @@ fn print_states(rows: &[u16], states: usize, letters: usize) {
 }
 
 fn tso_on_arm(way: u64) {
-    let one = models::built_ins::built_in(1);
-    let two = models::built_ins::built_in(15);
+    let one = built_ins::built_in(1);
+    let two = built_ins::built_in(15);
     let from = one.model;
     let onto = two.model;
     let mut rows = [0u16; WORDS];

@@ -3,7 +3,7 @@
 ghost use Prim.Native.Nat.{_≤_};
 ghost use lib.ListN.{length};
 use answers::Answer;
-use models::comparison::Compared;
+use comparison::Compared;
 
 fn print_answer(answer: Answer) {
     let numbers = answer.numbers();
@@ -32,9 +32,9 @@ fn front(bytes: &[u8], n: usize) -> &[u8] {
 // Writes a text back to the front of a buffer.
 fn rewrite_front(text: &[u8], out: &mut [u8], room: usize) -> Answer {
     if room <= out.len() {
-        return models::calls::rewrite(text, &mut out[..room]);
+        return writing::rewrite(text, &mut out[..room]);
     }
-    models::calls::rewrite(text, out)
+    writing::rewrite(text, out)
 }
 
 // Whether every byte from a place on is the one that the buffer was filled with.
@@ -65,7 +65,7 @@ fn try_text(text: &[u8], room: usize) {
 
 fn try_built_in(number: u64) {
     let mut out = [0u8; 1024];
-    let answer = models::calls::write_built_in(number, &mut out);
+    let answer = built_ins::write_built_in(number, &mut out);
     print_answer(answer);
     let text = written(answer, &out);
     io::write_all(1, text);
@@ -101,10 +101,10 @@ fn print_compared(compared: Compared) {
 
 fn compare_built_ins(first: u64, second: u64) {
     let mut one = [0u8; 1024];
-    let a = models::calls::write_built_in(first, &mut one);
+    let a = built_ins::write_built_in(first, &mut one);
     let mut two = [0u8; 1024];
-    let b = models::calls::write_built_in(second, &mut two);
-    print_compared(models::comparison::compare(written(a, &one), written(b, &two)));
+    let b = built_ins::write_built_in(second, &mut two);
+    print_compared(comparison::compare(written(a, &one), written(b, &two)));
 }
 
 fn compare_row(first: u64) {
@@ -143,11 +143,11 @@ fn text_end(input: &[u8], start: usize) -> usize
 fn try_input(text: &[u8]) {
     try_text(text, 1024);
     let mut out = [0u8; 1024];
-    let answer = models::calls::write_built_in(1, &mut out);
+    let answer = built_ins::write_built_in(1, &mut out);
     let good = written(answer, &out);
-    print_compared(models::comparison::compare(text, good));
+    print_compared(comparison::compare(text, good));
     io::write_all(1, b" ");
-    print_compared(models::comparison::compare(good, text));
+    print_compared(comparison::compare(good, text));
     io::write_all(1, b"\n");
 }
 

@@ -10,8 +10,3 @@ pub mod Reread
 pub mod Names
 pub mod Pushed
 pub mod Words
-pub mod Putting
-pub mod RoundTrip
-pub mod BuiltIns
-pub mod Compared
-pub mod WrittenBack

@@ -29,9 +29,10 @@ name-more s i ls li =
     ∙ sym (append-snoc (take i s) (getD s i 0) (replicate k 0))
     ∙ ap (λ (l : List ℕ). l ++ replicate k 0) (sym (take-suc s i 0 ls) ∙ ap (λ (n : ℕ). take n s) (sym (add-one i)))
 
-pub name-done : (s : List ℕ) (n i : ℕ) → n ≤ length s → i ≡ n → record { bytes = take i s ++ replicate (16 - i) 0 } ≡ filled (take n s)
-name-done s n i ln e =
-    ap (λ (l : List ℕ). record { bytes = l }) (ap₂ (λ (a b : ℕ). take a s ++ replicate (16 - b) 0) e (e ∙ sym (length-take-le n s ln)))
+pub name-done : (s : List ℕ) (i : ℕ) → i ≤ length s → take i s ≡ take 16 s → record { bytes = take i s ++ replicate (16 - i) 0 } ≡ filled (take 16 s)
+name-done s i li e =
+    ap (λ (l : List ℕ). record { bytes = l })
+    (ap₂ (λ (l : List ℕ) (n : ℕ). l ++ replicate (16 - n) 0) e (sym (length-take-le i s li) ∙ ap length e))
 
 -- one element more is stored where f says what each is
 pub stored-more : (l : List ℕ) (i x : ℕ) (f : ℕ → ℕ) → i < length l → x ≡ f i → ((j : ℕ) → j < i → getD l j 0 ≡ f j)

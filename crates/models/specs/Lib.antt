@@ -4,8 +4,3 @@ pub mod Text
 pub mod Form
 pub mod Scan
 pub mod Reading
-pub mod Writing
-pub mod BuiltIns
-pub mod Calls
-pub mod Comparison
-pub mod Numbers

@@ -1,7 +1,6 @@
-// How a model is held: the makers of names, of models without fences and of refused readings. Only this crate's readers use them.
+// How a model is held: the makers of names, of models without fences and of refused readings.
 ghost use mathlib.Core.Path.{_≡_};
-ghost use Prim.Native.Nat.{_≤_};
-ghost use lib.ListN.{length, take};
+ghost use lib.ListN.{take};
 ghost use Rattle.models.specs.Reading.{filled, bare, refusing};
 use crate::model::Model;
 use crate::model::Name;
@@ -10,14 +9,16 @@ use crate::model::Verdict;
 use answers::Refusal;
 use tables::table::Table;
 
-// The first bytes of a text as a name.
-pub fn first_bytes(text: &[u8], n: usize) -> Name
-    requires { ⌜ (n ≤ 16) × (n ≤ length (now text)) ⌝ }
-    ensures { λ r. ⌜ r ≡ filled (take n (now (text .entry))) ⌝ }
+// The first bytes of a text as a name: at most sixteen.
+pub fn first_bytes(text: &[u8]) -> Name
+    ensures { λ r. ⌜ r ≡ filled (take 16 (now (text .entry))) ⌝ }
 {
     let mut bytes = [0u8; 16];
     let mut i = 0;
-    while i < n {
+    while i < 16 {
+        if text.len() <= i {
+            return Name { bytes };
+        }
         bytes[i] = text[i];
         i += 1;
     }

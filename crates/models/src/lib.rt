@@ -1,9 +1,5 @@
-// Models as text: the reader, the writer, the built-in models and the comparison of two models.
-pub mod built_ins;
-pub mod calls;
-pub mod comparison;
-mod held;
+// Models: how one is held, and how its text is read.
+pub mod held;
 pub mod model;
 pub mod reader;
 mod scan;
-pub mod writer;

@@ -64,7 +64,7 @@ fn name_in(text: &[u8]) -> Name
     ensures { λ r. ⌜ r ≡ nameIn (now (text .entry)) ⌝ }
 {
     let n = scan::name_bytes(text, 0);
-    held::first_bytes(text, n)
+    held::first_bytes(&text[..n])
 }
 
 fn same_name(a: Name, b: Name) -> bool

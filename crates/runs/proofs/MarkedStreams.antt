@@ -2,7 +2,7 @@
 use mathlib.Core.Path.{_≡_, refl}
 use mathlib.Core.List.{map}
 use Rattle.tables.specs.Table.{table, mergedTable}
-use Rattle.models.specs.BuiltIns.{rows, under, builtIns, builtIn}
+use Rattle.built_ins.specs.BuiltIns.{rows, under, builtIns, builtIn}
 use Rattle.models.specs.Reading.{headAt, fenceAt, nameIn, tableIn, ended, linesFrom, reading}
 use Rattle.models.specs.Scan.{follow, nameRun, nameStep}
 use Rattle.rule.specs.Operation.{byteIs}

@@ -5,7 +5,7 @@ use mathlib.Core.List.{List, [], _∷_}
 use Rattle.answers.specs.declared.Refusal.{Refusal}
 use Rattle.models.specs.Bytes.{bytes}
 use Rattle.models.specs.Model.{Description}
-use Rattle.models.specs.BuiltIns.{builtIn, model, none}
+use Rattle.built_ins.specs.BuiltIns.{builtIn, model, none}
 use Rattle.models.specs.Text.{textOf}
 use Rattle.runs.specs.Bytes.{Outcome, put, refuse}
 use Rattle.runs.specs.Call.{outcome}

@@ -104,9 +104,9 @@ fn built_ins_in<'a>(
     room: usize,
 ) {
     let mut one = [0u8; 1024];
-    let first = models::calls::write_built_in(upstream, &mut one);
+    let first = built_ins::write_built_in(upstream, &mut one);
     let mut two = [0u8; 1024];
-    let second = models::calls::write_built_in(target, &mut two);
+    let second = built_ins::write_built_in(target, &mut two);
     texts_in(
         name,
         way,

@@ -5,7 +5,7 @@ use mathlib.Core.Logic.{⊎-elim}
 use native.Mathlib.Omega.{arith}
 use denote.Ref.{now}
 use lib.ListN.{length, length-append}
-use Rattle.models.proofs.Putting.{put-then, put-is}
+use Rattle.writing.proofs.Putting.{put-then, put-is}
 use Rattle.listing.specs.Decimal.{digit, decimal}
 use Rattle.listing.proofs.Decimals.{more-digits, Led, led-nothing, led-more}
 use borrow.Fn.Kinds.{In}

@@ -3,8 +3,8 @@ use mathlib.Core.List.{[], _∷_, _++_}
 use native.Mathlib.Omega.{arith}
 use lib.ListN.{length-append}
 use Rattle.models.specs.Bytes.{bytes}
-use Rattle.models.specs.Writing.{unfilled}
-use Rattle.models.proofs.Putting.{put-then, put-is}
+use Rattle.writing.specs.Writing.{unfilled}
+use Rattle.writing.proofs.Putting.{put-then, put-is}
 use Rattle.listing.specs.Decimal.{decimal}
 use Rattle.listing.specs.Printed.{wayWord, numberLine}
 use Rattle.listing.proofs.Decimals.{length-digits}

@@ -4,8 +4,8 @@ use mathlib.Core.List.{_++_, append-assoc}
 use denote.Ref.{now}
 use native.Mathlib.Omega.{arith}
 use Rattle.models.specs.Bytes.{bytes}
-use Rattle.models.specs.Writing.{unfilled}
-use Rattle.models.proofs.Putting.{put-then, put-is}
+use Rattle.writing.specs.Writing.{unfilled}
+use Rattle.writing.proofs.Putting.{put-then, put-is}
 use Rattle.machine.specs.Rows.{rowOf}
 use Rattle.listing.specs.Printed.{namesLine, numberLine, rowLines, outLine}
 use borrow.Author.Needs.{needs}

@@ -3,7 +3,7 @@ use mathlib.Core.Path.{_≡_, sym}
 use native.Mathlib.Omega.{arith}
 use lib.ListN.{length}
 use lib.Seq.{length-take-le}
-use Rattle.models.proofs.Putting.{put-is}
+use Rattle.writing.proofs.Putting.{put-is}
 use Rattle.listing.proofs.Printing.{name-found}
 use borrow.Author.Needs.{needs}
 use Rattle.listing.proofs.print.put_name.Statement.{statement}

@@ -1,5 +1,5 @@
 -- `put_number_line` meets its contract. Assumes nothing.
-use Rattle.models.proofs.Putting.{put-then}
+use Rattle.writing.proofs.Putting.{put-then}
 use borrow.Author.Needs.{needs}
 use Rattle.listing.proofs.print.put_number_line.Statement.{statement}
 use Rattle.listing.proofs.print.put_number_line.Tie as tie

@@ -5,8 +5,8 @@ use native.Mathlib.Omega.{arith}
 use borrow.Author.Needs.{needs}
 use denote.Ref.{now}
 use lib.ListN.{length}
-use Rattle.models.specs.Writing.{Put}
-use Rattle.models.proofs.Putting.{put-is}
+use Rattle.writing.specs.Writing.{Put}
+use Rattle.writing.proofs.Putting.{put-is}
 use Rattle.machine.specs.Rows.{rowOf}
 use Rattle.listing.specs.Printed.{rowLines}
 use Rattle.listing.proofs.Printing.{no-rows, one-row-more}

@@ -5,7 +5,7 @@ use lib.ListN.{length-append}
 use Rattle.listing.specs.Decimal.{decimal}
 use denote.Ref.{now}
 use Rattle.models.specs.Bytes.{bytes}
-use Rattle.models.proofs.Putting.{put-then, put-is}
+use Rattle.writing.proofs.Putting.{put-then, put-is}
 use Rattle.listing.specs.Printed.{numberLine}
 use Rattle.listing.proofs.Decimals.{length-digits}
 use Rattle.listing.proofs.Printing.{as-out}

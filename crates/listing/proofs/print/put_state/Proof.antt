@@ -5,8 +5,8 @@ use native.Mathlib.Omega.{arith}
 use borrow.Author.Needs.{needs}
 use denote.Ref.{now}
 use lib.ListN.{length, getD}
-use Rattle.models.specs.Writing.{Put}
-use Rattle.models.proofs.Putting.{put-then, put-is, nothing-put}
+use Rattle.writing.specs.Writing.{Put}
+use Rattle.writing.proofs.Putting.{put-then, put-is, nothing-put}
 use Rattle.machine.specs.Rows.{decoded, rowOf}
 use Rattle.listing.specs.Printed.{stepLine, stateLines}
 use Rattle.listing.proofs.Printing.{no-steps, one-step-more}

@@ -2,7 +2,7 @@
 use mathlib.Core.List.{[], _∷_}
 use native.Mathlib.Omega.{arith}
 use lib.ListN.{length-append}
-use Rattle.models.proofs.Putting.{put-then, put-is}
+use Rattle.writing.proofs.Putting.{put-then, put-is}
 use Rattle.listing.specs.Decimal.{decimal}
 use Rattle.listing.proofs.Decimals.{length-digits}
 use Rattle.listing.proofs.Printing.{step-text}

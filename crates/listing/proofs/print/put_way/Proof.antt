@@ -4,7 +4,7 @@ use mathlib.Core.List.{_++_}
 use native.Mathlib.Omega.{arith}
 use Rattle.rule.specs.declared.way.Way.{Way}
 use Rattle.models.specs.Bytes.{bytes}
-use Rattle.models.proofs.Putting.{put-is}
+use Rattle.writing.proofs.Putting.{put-is}
 use Rattle.listing.specs.Printed.{wayWord}
 use borrow.Author.Needs.{needs}
 use Rattle.listing.proofs.print.put_way.Statement.{statement}

@@ -1,0 +1,40 @@
+-- `built_name` meets its contract. Assumes nothing.
+use mathlib.Core.Path.{_∙_}
+use Prim.Native.Nat.{_%_}
+use native.Mathlib.Nat.{mod-lt}
+use native.Mathlib.Omega.{arith}
+use Rattle.built_ins.specs.Numbers.{nameBytes}
+use Rattle.built_ins.proofs.BuiltIns.{name-at}
+use borrow.Author.Needs.{needs}
+use Rattle.built_ins.proofs.numbers.built_name.Statement.{statement}
+use Rattle.built_ins.proofs.numbers.built_name.Tie as tie
+
+mul-start : tie.Need-mul-start
+mul-start c = search needs
+
+sub-first-bytes : tie.Need-sub-first-bytes
+sub-first-bytes c = search needs
+
+part-first-bytes-start : tie.Need-part-first-bytes-start
+part-first-bytes-start c = search needs
+
+part-first-bytes-end : tie.Need-part-first-bytes-end
+part-first-bytes-end c = search needs
+
+first-bytes-requires : tie.Need-first-bytes-requires
+first-bytes-requires c κs = search needs
+
+returns : tie.Need-returns
+unfolding nameBytes
+returns c = c .first-bytes .ensures ∙ name-at (c .before .before .before .args .index % 16) (mod-lt (c .before .before .before .args .index) (omega arith))
+
+pub built-name-spec : {M : Type 1} → statement M
+built-name-spec =
+    tie.close
+    (tie.spec
+    mul-start
+    sub-first-bytes
+    part-first-bytes-start
+    part-first-bytes-end
+    first-bytes-requires
+    returns)

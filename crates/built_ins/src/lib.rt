@@ -1,0 +1,34 @@
+// The sixteen built-in models.
+mod numbers;
+
+ghost use mathlib.Core.Path.{_≡_};
+ghost use Rattle.models.specs.Text.{textOf};
+ghost use Rattle.writing.specs.Calls.{answerAfter, bufferAfter};
+ghost use Rattle.built_ins.specs.BuiltIns.{builtIn, builtInReading};
+use answers::Answer;
+use answers::Refusal;
+use models::held;
+use models::model::Reading;
+use models::model::Verdict;
+
+// The built-in model of a number.
+pub fn built_in(number: u64) -> Reading
+    ensures { λ r. ⌜ r ≡ builtInReading number ⌝ }
+{
+    if 15 < number {
+        return held::refuse(Refusal::OutOfRange);
+    }
+    let model = numbers::built_model(number as usize);
+    Reading {
+        verdict: Verdict::Accepted,
+        model,
+    }
+}
+
+// Writes the text of a built-in model.
+pub fn write_built_in(number: u64, out: &mut [u8]) -> Answer
+    ensures answer { λ a. ⌜ a ≡ answerAfter (builtInReading number .verdict) (textOf (builtIn number)) (now (out .entry)) ⌝ }
+    ensures buffer { λ _. ⌜ now (out .exit) ≡ bufferAfter (builtInReading number .verdict) (textOf (builtIn number)) (now (out .entry)) ⌝ }
+{
+    writing::write_reading(built_in(number), out)
+}

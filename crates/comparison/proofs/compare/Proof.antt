@@ -1,0 +1,58 @@
+-- `compare` meets its contract. Assumes nothing.
+use mathlib.Core.Path.{_≡_, sym, ap, ap₂, _∙_}
+use denote.Ref.{now}
+use Rattle.models.specs.declared.model.Reading.{Reading}
+use Rattle.tables.specs.declared.table.Table.{Table}
+use Rattle.models.specs.declared.model.Verdict.{Verdict}
+use Rattle.comparison.specs.declared.Compared.{Compared}
+use Rattle.models.specs.Reading.{reading}
+use Rattle.comparison.specs.Comparison.{comparedBoth, comparedFirst, comparing}
+use borrow.Author.Needs.{needs}
+use Rattle.comparison.proofs.compare.Statement.{statement}
+use Rattle.comparison.proofs.compare.Tie as tie
+
+read-requires : tie.Need-read-requires
+read-requires c κs = search needs
+
+enum-known-verdict : tie.Need-enum-known-verdict
+enum-known-verdict c = search needs
+
+enum-told : tie.Need-enum-told
+enum-told c = search needs
+
+read-requires-2 : tie.Need-read-requires-2
+read-requires-2 c κs = search needs
+
+compare-with-requires : tie.Need-compare-with-requires
+compare-with-requires c κs = search needs
+
+returns : tie.Need-returns
+unfolding comparing
+returns c =
+    let a = c .before .before .before .before .before .before .before .args in
+    let s = reading (now (a .second)) in
+    let r = c .before .before .before .before .read in
+    ap (λ (v : Verdict). comparedFirst v (r .result .model .ppo) s) (sym (c .before .verdict .given .1))
+    ∙ ap (λ (x : Reading). comparedFirst (x .verdict) (x .model .ppo) s) (r .ensures .0)
+
+returns-2 : tie.Need-returns-2
+unfolding comparing
+returns-2 c =
+    let a = c .before .before .before .before .before .before .before .before .args in
+    let r = c .before .before .before .before .before .read in
+    c .compare-with .ensures
+    ∙ ap (λ (x : Reading). comparedBoth (r .result .model .ppo) (x .verdict) (x .model .ppo)) (c .before .read2 .ensures .0)
+    ∙ ap (λ (v : Verdict). comparedFirst v (r .result .model .ppo) (reading (now (a .second)))) (sym (c .before .before .enum-told .given .1))
+    ∙ ap (λ (x : Reading). comparedFirst (x .verdict) (x .model .ppo) (reading (now (a .second)))) (r .ensures .0)
+
+pub compare-spec : {M : Type 1} → statement M
+compare-spec =
+    tie.close
+    (tie.spec
+    read-requires
+    enum-known-verdict
+    enum-told
+    read-requires-2
+    compare-with-requires
+    returns
+    returns-2)

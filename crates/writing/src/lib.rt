@@ -1,0 +1,45 @@
+// From a model to its text. The text is made in a buffer of the writer's own, so a refused call writes nothing.
+mod parts;
+
+ghost use mathlib.Core.Path.{_≡_};
+ghost use lib.ListN.{length};
+ghost use Rattle.answers.specs.Written.{written, writing};
+ghost use Rattle.models.specs.Text.{textOf};
+ghost use Rattle.models.specs.Reading.{reading};
+ghost use Rattle.writing.specs.Writing.{described};
+ghost use Rattle.writing.specs.Calls.{answerAfter, bufferAfter};
+use answers::Answer;
+use models::model::Model;
+use models::model::Reading;
+use models::model::Verdict;
+
+// The model's text in the buffer, or nothing where it does not fit.
+pub fn write(model: Model, out: &mut [u8]) -> Answer
+    ensures answer { λ r. ⌜ r ≡ writing (textOf (described model)) 0 0 (length (now (out .entry))) ⌝ }
+    ensures buffer { λ _. ⌜ now (out .exit) ≡ written (textOf (described model)) (now (out .entry)) ⌝ }
+{
+    let mut buf = [0u8; 1024];
+    let n = parts::put_model(&mut buf, model);
+    answers::write_out(&buf[..n], 0, 0, out)
+}
+
+// Writes the text of a model that was read or made, or tells why there is none.
+pub fn write_reading(r: Reading, out: &mut [u8]) -> Answer
+    ensures answer { λ a. ⌜ a ≡ answerAfter (r .verdict) (textOf (described (r .model))) (now (out .entry)) ⌝ }
+    ensures buffer { λ _. ⌜ now (out .exit) ≡ bufferAfter (r .verdict) (textOf (described (r .model))) (now (out .entry)) ⌝ }
+{
+    let verdict = r.verdict;
+    let model = r.model;
+    match verdict {
+        Verdict::Refused(why) => Answer::Refused(why),
+        Verdict::Accepted => write(model, out),
+    }
+}
+
+// Reads a text and writes it back.
+pub fn rewrite(text: &[u8], out: &mut [u8]) -> Answer
+    ensures answer { λ a. ⌜ a ≡ answerAfter (reading (now (text .entry)) .verdict) (now (text .entry)) (now (out .entry)) ⌝ }
+    ensures buffer { λ _. ⌜ now (out .exit) ≡ bufferAfter (reading (now (text .entry)) .verdict) (now (text .entry)) (now (out .entry)) ⌝ }
+{
+    write_reading(models::reader::read(text), out)
+}
