@@ -115,46 +115,33 @@ onward-at s f l =
     let h : 8 + f - 8 ≡ f = omega arith in
     entry-at s (8 + f) (omega arith) ∙ rw (le-ltb (8 + f) 8 (omega arith), h)
 
-pub upstream-at : (k : ℕ) → k < 16 → standsAt 1 (7 + k) ≡ Place.UpstreamName k
+-- what stands behind the five numbers of block 0
+name-at : (i : ℕ) → 7 ≤ i → i < 39 → standsAt 1 i ≡ choose (ltb i 23) (Place.UpstreamName (i - 7)) (choose (ltb i 39) (Place.TargetName (i - 23)) Place.Nothing)
 unfolding standsAt
-upstream-at k l =
-    let b : (7 + k) / 512 ≡ 0 = omega arith in
-    let p : (7 + k) % 512 ≡ 7 + k = omega arith in
-    let h : 7 + k - 7 ≡ k = omega arith in
+name-at i l u =
+    let b : i / 512 ≡ 0 = omega arith in
+    let p : i % 512 ≡ i = omega arith in
     rw (
       b,
       p,
-      le-ltb (7 + k) 2 (omega arith),
-      lt-ltb (7 + k) 506 (omega arith),
-      le-ltb (7 + k) 3 (omega arith),
-      le-ltb (7 + k) 4 (omega arith),
-      le-ltb (7 + k) 5 (omega arith),
-      le-ltb (7 + k) 6 (omega arith),
-      le-ltb (7 + k) 7 (omega arith),
-      lt-ltb (7 + k) 23 (omega arith),
-      h,
+      le-ltb i 2 (omega arith),
+      lt-ltb i 506 (omega arith),
+      le-ltb i 3 (omega arith),
+      le-ltb i 4 (omega arith),
+      le-ltb i 5 (omega arith),
+      le-ltb i 6 (omega arith),
+      le-ltb i 7 (omega arith),
     )
 
+pub upstream-at : (k : ℕ) → k < 16 → standsAt 1 (7 + k) ≡ Place.UpstreamName k
+upstream-at k l =
+    let h : 7 + k - 7 ≡ k = omega arith in
+    name-at (7 + k) (omega arith) (omega arith) ∙ rw (lt-ltb (7 + k) 23 (omega arith), h)
+
 pub target-at : (k : ℕ) → k < 16 → standsAt 1 (23 + k) ≡ Place.TargetName k
-unfolding standsAt
 target-at k l =
-    let b : (23 + k) / 512 ≡ 0 = omega arith in
-    let p : (23 + k) % 512 ≡ 23 + k = omega arith in
     let h : 23 + k - 23 ≡ k = omega arith in
-    rw (
-      b,
-      p,
-      le-ltb (23 + k) 2 (omega arith),
-      lt-ltb (23 + k) 506 (omega arith),
-      le-ltb (23 + k) 3 (omega arith),
-      le-ltb (23 + k) 4 (omega arith),
-      le-ltb (23 + k) 5 (omega arith),
-      le-ltb (23 + k) 6 (omega arith),
-      le-ltb (23 + k) 7 (omega arith),
-      le-ltb (23 + k) 23 (omega arith),
-      lt-ltb (23 + k) 39 (omega arith),
-      h,
-    )
+    name-at (23 + k) (omega arith) (omega arith) ∙ rw (le-ltb (23 + k) 23 (omega arith), lt-ltb (23 + k) 39 (omega arith), h)
 
 pub within-image : (s o n : ℕ) → s < n → o < 24 → position 1 s o < 512 * blocksFor 1 n
 within-image s o n l k = omega arith
