@@ -1,4 +1,4 @@
--- `run_case` meets its contract. Assumes nothing.
+-- `run_case` is safe and ends. Assumes nothing.
 use lib.Seq.{length-front}
 use borrow.Author.Needs.{needs}
 use Rattle.runs_cases.proofs.run_case.Statement.{statement}
