@@ -1,10 +1,10 @@
--- `handmade_rows` is safe and ends: the measure is what is left of the rows. Assumes nothing.
+-- `fill` is safe and ends. Assumes nothing.
 use Prim.Native.Nat.{_-_}
 use mathlib.Core.Path.{_≡_}
 use lib.ListN.{length}
 use borrow.Author.Needs.{needs}
-use Rattle.image_cases.proofs.images.handmade_rows.Statement.{statement}
-use Rattle.image_cases.proofs.images.handmade_rows.Tie as tie
+use Rattle.image_cases.proofs.handmade.fill.Statement.{statement}
+use Rattle.image_cases.proofs.handmade.fill.Tie as tie
 
 abbrev Inv-loop : tie.InvT-loop
 Inv-loop states rows₀ j₀ rows j = length rows ≡ length rows₀
@@ -15,8 +15,8 @@ abbrev μ-loop : tie.MeasureT-loop
 loop-holds : tie.Need-loop-holds Inv-loop μ-loop
 loop-holds c = search needs
 
-handmade-word-requires : tie.Need-handmade-word-requires Inv-loop μ-loop
-handmade-word-requires c κs = search needs
+word-at-requires : tie.Need-word-at-requires Inv-loop μ-loop
+word-at-requires c κs = search needs
 
 mul-rows : tie.Need-mul-rows Inv-loop μ-loop
 mul-rows c = search needs
@@ -39,14 +39,14 @@ same-length c = search needs
 returns : tie.Need-returns Inv-loop μ-loop
 returns c = search needs
 
-pub handmade-rows-spec : {M : Type 1} → statement M
-handmade-rows-spec =
+pub fill-spec : {M : Type 1} → statement M
+fill-spec =
     tie.close
     (tie.spec
     Inv-loop
     μ-loop
     loop-holds
-    handmade-word-requires
+    word-at-requires
     mul-rows
     slice-write-rows
     add-j

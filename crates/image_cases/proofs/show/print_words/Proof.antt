@@ -2,8 +2,8 @@
 use Prim.Native.Nat.{_-_}
 use lib.ListN.{length}
 use borrow.Author.Needs.{needs}
-use Rattle.image_cases.proofs.rooms.print_words.Statement.{statement}
-use Rattle.image_cases.proofs.rooms.print_words.Tie as tie
+use Rattle.image_cases.proofs.show.print_words.Statement.{statement}
+use Rattle.image_cases.proofs.show.print_words.Tie as tie
 
 abbrev Inv-loop : tie.InvT-loop
 Inv-loop words i₀ t3 i = Unit
