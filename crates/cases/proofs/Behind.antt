@@ -2,7 +2,7 @@
 use Prim.Native.Nat.{ℕ, zero, suc, _+_, _-_, _*_, _%_, _^_, _≤_, _<_}
 use mathlib.Core.Path.{_≡_, refl, sym, _∙_, ap}
 use mathlib.Core.Bool.{true, false}
-use mathlib.Core.List.{List}
+use mathlib.Core.List.{List, []}
 use native.Mathlib.Omega.{arith}
 use native.Mathlib.Nat.{not-suc-le-zero}
 use native.Mathlib.Numerals.{add-one}
@@ -33,6 +33,15 @@ one-on (suc k) s h = let less : suc k - 1 ≡ k = omega arith in ap (λ (j : ℕ
 
 pub fields-on : (left at next : ℕ) (l all : List ℕ) → 0 < left → drop next l ≡ behind (drop at l) → from left (drop at l) ≡ all → from (left - 1) (drop next l) ≡ all
 fields-on left at next l all h e so = ap (λ (s : List ℕ). from (left - 1) s) e ∙ one-on left (drop at l) h ∙ so
+
+none-behind : (k : ℕ) → from k [] ≡ []
+none-behind zero = refl
+none-behind (suc k) = none-behind k
+
+pub fields-none : (left at : ℕ) (l all : List ℕ) → at ≡ length l → from left (drop at l) ≡ all → drop at l ≡ all
+fields-none left at l all e so =
+    let none : drop at l ≡ [] = drop-of-length-le l {i = at} (omega (arith, e)) in
+    none ∙ sym (none-behind left) ∙ ap (from left) (sym none) ∙ so
 
 pub fields-end : (left : ℕ) (s all : List ℕ) → left ≤ 0 → from left s ≡ all → s ≡ all
 fields-end left s all h so = let none : 0 ≡ left = omega (arith, h) in ap (λ (j : ℕ). from j s) none ∙ so

@@ -21,6 +21,9 @@ fn start(input: &[u8], k: usize) -> usize
     let mut at = 0;
     let mut left = k;
     while 0 < left {
+        if at == input.len() {
+            return at;
+        }
         at = next(input, at);
         left -= 1;
     }
