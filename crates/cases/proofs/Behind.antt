@@ -1,7 +1,6 @@
 -- Fields, one behind another, and the digits of a number. Assumes nothing.
 use Prim.Native.Nat.{ℕ, zero, suc, _+_, _-_, _*_, _%_, _^_, _≤_, _<_}
 use mathlib.Core.Path.{_≡_, refl, sym, _∙_, ap}
-use mathlib.Core.Bool.{true, false}
 use mathlib.Core.List.{List, []}
 use native.Mathlib.Omega.{arith}
 use native.Mathlib.Nat.{not-suc-le-zero}
@@ -27,6 +26,7 @@ pub next-none : (l : List ℕ) (at end : ℕ) → end ≡ at + indexOf 124 (slic
 next-none l at end e h =
     drop-of-length-le l h ∙ sym (drop-of-length-le l {i = end + 1} (omega (arith, h))) ∙ next-one l at end e
 
+-- the loop over fields: as many are left to pass over
 one-on : (k : ℕ) (s : List ℕ) → 0 < k → from (k - 1) (behind s) ≡ from k s
 one-on zero s h = absurd (not-suc-le-zero h)
 one-on (suc k) s h = let less : suc k - 1 ≡ k = omega arith in ap (λ (j : ℕ). from j (behind s)) less
@@ -46,6 +46,7 @@ fields-none left at l all e so =
 pub fields-end : (left : ℕ) (s all : List ℕ) → left ≤ 0 → from left s ≡ all → s ≡ all
 fields-end left s all h so = let none : 0 ≡ left = omega (arith, h) in ap (λ (j : ℕ). from j s) none ∙ so
 
+-- the parts of the input that are handed out
 pub all-from : (at : ℕ) (l rest : List ℕ) → drop at l ≡ rest → take (length l - at) (drop at l) ≡ rest
 all-from at l rest so = take-all (length l - at) (drop at l) (omega (arith, length-drop at l)) ∙ so
 
@@ -54,6 +55,7 @@ one-field at end l rest e so =
     let as-many : end - at ≡ indexOf 124 (drop at l) = omega (arith, found l at end e) in
     ap (λ (n : ℕ). take n (drop at l)) as-many ∙ ap ahead so
 
+-- the loop over digits, and one of them
 pub digits-on : (sum more i v : ℕ) (l : List ℕ) → i < length l → more ≡ withDigit sum (getD l i 0) → numberIn sum (drop i l) ≡ v → numberIn more (drop (i + 1) l) ≡ v
 digits-on sum more i v l h e so = rw (e, add-one i, sym so, drop-cons l i 0 h)
 

@@ -13,9 +13,11 @@ use lib.ListN.{length, getD, set, take, drop, drop-of-length-le}
 use lib.Seq.{drop-cons, take-all, getD-set-same, getD-set-other, ext-getD}
 use Rattle.cases.specs.Buffer.{filled, Repeats}
 
+-- taking more than there is
 pub whole : (n : ℕ) (l : List ℕ) → length l < n → l ≡ take n l
 whole n l h = sym (take-all n l (omega (arith, h)))
 
+-- the loop that looks for another byte
 pub filled-on : (l : List ℕ) (i : ℕ) (all : Bool) → i < length l → getD l i 0 ≡ 35 → filled (drop i l) ≡ all → filled (drop (i + 1) l) ≡ all
 filled-on l i all h e so = rw (add-one i, sym so, drop-cons l i 0 h, eq-eqb _ _ e)
 
@@ -25,6 +27,7 @@ filled-off l i all h e so = rw (sym so, drop-cons l i 0 h, ne-eqb _ _ e)
 pub filled-end : (l : List ℕ) (i : ℕ) (all : Bool) → length l ≤ i → filled (drop i l) ≡ all → true ≡ all
 filled-end l i all h so = rw (sym so, drop-of-length-le l h)
 
+-- the loop that fills a buffer
 pub repeats-none : (piece bytes : List ℕ) → Repeats piece bytes 0
 repeats-none piece bytes = record { each = λ i l. absurd (not-suc-le-zero l) }
 

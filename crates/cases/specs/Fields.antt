@@ -18,7 +18,7 @@ abbrev pub from : ℕ → List ℕ → List ℕ
 from zero s = s
 from (suc k) s = from k (behind s)
 
--- the number with a digit behind it, any byte being one of sixteen; where none fits, the number as it is
+-- the number with a digit behind it, modulo 2^64, any byte being one of sixteen digits; a number with no room for a digit stays as it is
 abbrev pub withDigit : ℕ → ℕ → ℕ
 withDigit sum byte = cond (leb sum 1844674407370955161) ((sum * 10 + byte % 16) % 2 ^ 64) sum
 

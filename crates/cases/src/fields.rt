@@ -53,7 +53,7 @@ fn wide(byte: u8) -> u64
     byte as u64
 }
 
-// The number with a digit behind it, any byte being one of sixteen; where none fits, the number as it is.
+// The number with a digit behind it, modulo 2^64, any byte being one of sixteen digits; a number with no room for a digit stays as it is.
 fn with_digit(sum: u64, byte: u8) -> u64
     ensures { λ r. ⌜ r ≡ withDigit sum byte ⌝ }
 {

@@ -2,7 +2,6 @@
 use native.Mathlib.Omega.{arith}
 use mathlib.Core.Path.{sym}
 use lib.Seq.{length-take-le}
-use borrow.Author.Needs.{needs}
 use Rattle.cases.proofs.at_most.Statement.{statement}
 use Rattle.cases.proofs.at_most.Tie as tie
 
