@@ -1,84 +1,90 @@
 // Images: every built-in pair generated, read and written back, both ways; images of the layout's limits; damaged images; runs over images;
 // buffers too small by one byte and exactly right. An answer is its five numbers; a header is way, states, upstream and target fences.
-// The stored output comes from tools/expect-image-cases: it reads the cases out of these files, has the model in host/model, which shares
-// nothing with this code, make the images and answer, and works the checks out by itself.
-mod damage;
-mod images;
-mod rooms;
+// Standard input has model texts, a heading, and then commands, which work on one buffer with an image at its front. A command has seven fields: a
+// letter, what is printed first, four that the letter explains, and the end of the line; each field has a bar behind it.
+// Both the commands and the stored output come from tools/expect-image-cases, which has the model in host/model, that shares nothing with this
+// code, make the images and answer, and works the checks out by itself.
+mod handmade;
 mod show;
-mod streams;
 mod tries;
 
 use answers::Answer;
+use cases::fields::field;
+use cases::fields::number;
 
-// An image at the front of a buffer: its checks, its CRC, and what reading and writing it back answers.
-fn print_image(answer: Answer, buffer: &[u8]) {
-    let image = show::front(buffer, show::written(answer));
-    show::print_answer(answer);
-    show::print_checks(image);
-    show::print_crc(image);
-    io::write_all(1, b";");
-    tries::rewrite(image, 7168);
-    io::write_all(1, b"\n");
+// Model texts and the heading.
+const BEFORE: usize = 18;
+
+fn size(fields: &[u8], k: usize) -> usize {
+    number(field(fields, k)) as usize
 }
 
-fn round_trip(way: u64, upstream: u64, target: u64) {
-    let mut buffer = images::marks();
-    let answer = images::generated(way, upstream, target, &mut buffer);
-    io::print_decimal(1, upstream);
-    io::write_all(1, b" on ");
-    io::print_decimal(1, target);
-    io::write_all(1, b", way ");
-    io::print_decimal(1, way);
-    io::write_all(1, b":");
-    print_image(answer, &buffer);
+// Way, the two texts by their fields in the input, room.
+fn generate<'a>(input: &'a [u8], fields: &'a [u8], buffer: &mut [u8]) -> Answer {
+    cases::repeat(b"#", buffer);
+    let room = cases::at_most(size(fields, 5), buffer);
+    generation::generate(
+        number(field(fields, 2)),
+        field(input, size(fields, 3)),
+        field(input, size(fields, 4)),
+        &mut buffer[..room],
+    )
 }
 
-fn round_trips_from(way: u64, upstream: u64) {
-    let mut target = 0;
-    while target < 16 {
-        round_trip(way, upstream, target);
-        target += 1;
+// A place, and the byte to put there.
+fn change(fields: &[u8], buffer: &mut [u8]) {
+    let at = size(fields, 2);
+    if at < buffer.len() {
+        buffer[at] = (number(field(fields, 3)) % 256) as u8;
     }
 }
 
-fn round_trips(way: u64) {
-    let mut upstream = 0;
-    while upstream < 16 {
-        round_trips_from(way, upstream);
-        upstream += 1;
+// The place from which on zeros are put.
+fn clear(fields: &[u8], buffer: &mut [u8]) {
+    let from = size(fields, 2);
+    if from < buffer.len() {
+        cases::repeat(b"\x00", &mut buffer[from..]);
     }
 }
 
-fn handmade(states: u8) {
-    let mut buffer = images::marks();
-    let answer = images::handmade(states, &mut buffer);
-    io::write_all(1, b"handmade, states ");
-    io::print_decimal(1, states as u64);
-    io::write_all(1, b":");
-    print_image(answer, &buffer);
+// The letter of a command.
+fn letter(text: &[u8]) -> u8 {
+    if 0 < text.len() { text[0] } else { 0 }
 }
 
-// At the ends of blocks.
-fn handmade_machines() {
-    handmade(0);
-    handmade(1);
-    handmade(2);
-    handmade(20);
-    handmade(21);
-    handmade(22);
-    handmade(42);
-    handmade(43);
-    handmade(252);
-    handmade(253);
-    handmade(255);
+fn follow<'a>(input: &'a [u8], fields: &'a [u8], buffer: &mut [u8]) {
+    io::write_all(1, field(fields, 1));
+    match letter(field(fields, 0)) {
+        b'g' => {
+            generate(input, fields, buffer);
+        }
+        b'i' => tries::image(generate(input, fields, buffer), buffer),
+        b'h' => tries::image(handmade::write(size(fields, 2), buffer), buffer),
+        b'b' => change(fields, buffer),
+        b'z' => clear(fields, buffer),
+        b'w' => tries::write_back(fields, buffer),
+        b'r' => tries::run_from(fields, buffer),
+        b't' => tries::both(fields, buffer),
+        b'e' => tries::read(fields, buffer),
+        _ => {}
+    }
+}
+
+fn follow_all(input: &[u8], buffer: &mut [u8]) {
+    let mut k = BEFORE;
+    while k < input.len() {
+        let fields = cases::fields::rest(input, k);
+        if fields.len() == 0 {
+            return;
+        }
+        follow(input, fields, buffer);
+        k += 7;
+    }
 }
 
 fn main() {
-    round_trips(0);
-    round_trips(1);
-    handmade_machines();
-    rooms::all();
-    damage::all();
-    streams::all();
+    let mut input = io::large_buffer();
+    let n = io::read_full(0, &mut input);
+    let mut buffer = show::marks();
+    follow_all(&input[..n], &mut buffer);
 }

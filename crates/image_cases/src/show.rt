@@ -1,69 +1,26 @@
-// How the cases' answers are printed.
-ghost use Prim.Native.Nat.{_^_, _<_};
-use answers::Answer;
+// How the answers on images are printed.
+ghost use mathlib.Core.Path.{_≡_};
+ghost use lib.ListN.{length};
+use layout::verdict::Verdict;
 
-fn print_number(number: u64) {
-    io::write_all(1, b" ");
-    io::print_decimal(1, number);
-}
-
-// Number, place, written, fences, state.
-pub fn print_answer(answer: Answer) {
-    let numbers = answer.numbers();
-    print_number(numbers[0]);
-    print_number(numbers[1]);
-    print_number(numbers[2]);
-    print_number(numbers[3]);
-    print_number(numbers[4]);
+// Room for the longest output and a byte more, of a byte that tells what is kept. The large array stands in a function of its own, so that few
+// proofs hold it.
+pub fn marks() -> [u8; 8193]
+    ensures { λ r. ⌜ 8193 ≡ length r ⌝ }
+{
+    [b'#'; 8193]
 }
 
 // Way, states, upstream fences, target fences.
 pub fn print_header(header: [u64; 4]) {
-    print_number(header[0]);
-    print_number(header[1]);
-    print_number(header[2]);
-    print_number(header[3]);
+    cases::print_numbers(&header);
 }
 
-pub fn written(answer: Answer) -> usize {
-    let numbers = answer.numbers();
-    numbers[2] as usize
-}
-
-pub fn front(bytes: &[u8], n: usize) -> &[u8] {
-    if n <= bytes.len() { &bytes[..n] } else { bytes }
-}
-
-fn wide(byte: u8) -> u64
-    ensures { λ r. ⌜ r < 256 ⌝ }
-{
-    byte as u64
-}
-
-// The byte at a place, 0 past the end.
-pub fn byte_at(bytes: &[u8], i: usize) -> u64
-    ensures { λ r. ⌜ r < 256 ⌝ }
-{
-    if i < bytes.len() { wide(bytes[i]) } else { 0 }
-}
-
-// Whether every byte from a place on is the one that the buffer was filled with.
-fn kept(buffer: &[u8], from: usize) -> bool {
-    let mut i = from;
-    while i < buffer.len() {
-        if buffer[i] != b'#' {
-            return false;
-        }
-        i += 1;
-    }
-    true
-}
-
-pub fn print_kept(buffer: &[u8], from: usize) {
-    if kept(buffer, from) {
-        io::write_all(1, b" kept");
+pub fn print_same<'a>(image: &'a [u8], back: &'a [u8]) {
+    if check::same(image, back) {
+        io::write_all(1, b", the same,");
     } else {
-        io::write_all(1, b" changed");
+        io::write_all(1, b", not it,");
     }
 }
 
@@ -101,19 +58,55 @@ pub fn print_crc(bytes: &[u8]) {
     io::print_hex(1, crc(bytes) as u64, 8);
 }
 
-fn print_check(image: &[u8], at: usize)
-    requires { ⌜ at < 2 ^ 63 ⌝ }
-{
+// A short output, or the CRC of a long one.
+pub fn print_output(output: &[u8]) {
+    if output.len() < 32 {
+        io::write_all(1, b" [");
+        io::write_all(1, output);
+        io::write_all(1, b"]");
+    } else {
+        print_crc(output);
+    }
+}
+
+fn print_check(high: u8, low: u8) {
     io::write_all(1, b" ");
-    io::print_hex(1, byte_at(image, at), 2);
-    io::print_hex(1, byte_at(image, at + 1), 2);
+    io::print_hex(1, high as u64, 2);
+    io::print_hex(1, low as u64, 2);
 }
 
 // The check of each block.
 pub fn print_checks(image: &[u8]) {
-    let mut b = 0;
-    while b < image.len() / 512 {
-        print_check(image, 512 * b + 510);
-        b += 1;
+    let mut at = 511;
+    while at < image.len() {
+        print_check(image[at - 1], image[at]);
+        at += 512;
+    }
+}
+
+fn wide(word: u16) -> u64 {
+    word as u64
+}
+
+pub fn print_words(words: &[u16]) {
+    let mut i = 0;
+    while i < words.len() {
+        io::write_all(1, b" ");
+        io::print_hex(1, wide(words[i]), 4);
+        i += 1;
+    }
+}
+
+pub fn print_verdict(verdict: Verdict) {
+    match verdict {
+        Verdict::Accepted => {
+            io::write_all(1, b"accepted");
+        }
+        Verdict::Refused(why) => {
+            io::write_all(1, b"refused ");
+            io::print_decimal(1, why.number());
+            io::write_all(1, b" at ");
+            io::print_decimal(1, why.place());
+        }
     }
 }

@@ -1,94 +1,88 @@
-// What is tried with an image.
-use crate::images;
+// What is tried with an image at the front of a buffer.
 use crate::show;
+use crate::size;
 use answers::Answer;
-
-fn rewrite_into_front(
-    image: &[u8],
-    header: &mut [u64; 4],
-    buffer: &mut [u8],
-    room: usize,
-) -> Answer {
-    if room <= buffer.len() {
-        return image::calls::rewrite(image, header, &mut buffer[..room]);
-    }
-    image::calls::rewrite(image, header, buffer)
-}
-
-fn same<'a>(one: &'a [u8], other: &'a [u8]) -> bool {
-    if one.len() != other.len() {
-        return false;
-    }
-    let mut i = 0;
-    while i < one.len() {
-        if one[i] != other[i] {
-            return false;
-        }
-        i += 1;
-    }
-    true
-}
-
-fn print_same<'a>(image: &'a [u8], back: &'a [u8]) {
-    if same(image, back) {
-        io::write_all(1, b", the same,");
-    } else {
-        io::write_all(1, b", not it,");
-    }
-}
+use cases::fields::field;
+use cases::fields::number;
 
 // Reads an image and writes it back into a buffer of so many bytes: the answer, the header, whether the bytes written are the image, and
 // whether the rest of the buffer is as it was.
-pub fn rewrite(image: &[u8], room: usize) {
-    let mut buffer = images::marks();
+fn rewrite(image: &[u8], room: usize) {
+    let mut buffer = show::marks();
     let mut header = [1u64; 4];
-    let answer = rewrite_into_front(image, &mut header, &mut buffer, room);
-    show::print_answer(answer);
-    io::write_all(1, b",");
+    let n = cases::at_most(room, &buffer);
+    let answer = image::calls::rewrite(image, &mut header, &mut buffer[..n]);
+    cases::print_answer(answer);
+    io::write_all(1, b", ");
     show::print_header(header);
-    let n = show::written(answer);
-    print_same(image, show::front(&buffer, n));
-    show::print_kept(&buffer, n);
+    let back = cases::written(answer, &buffer);
+    show::print_same(image, back);
+    cases::print_kept(&buffer, back.len());
 }
 
-fn run_into_front<'a>(
-    image: &'a [u8],
-    start: u64,
-    stream: &'a [u8],
-    buffer: &mut [u8],
-    room: usize,
-) -> Answer {
-    if room <= buffer.len() {
-        return image::run::run(image, start, stream, &mut buffer[..room]);
-    }
-    image::run::run(image, start, stream, buffer)
+// An image that was made: the answer, whether the rest of the buffer is as it was, its checks, its CRC, and what writing it back gives.
+pub fn image(answer: Answer, buffer: &[u8]) {
+    let image = cases::written(answer, buffer);
+    cases::print_answer(answer);
+    cases::print_kept(buffer, image.len());
+    show::print_checks(image);
+    show::print_crc(image);
+    io::write_all(1, b"; ");
+    rewrite(image, 7168);
+    io::write_all(1, b"\n");
 }
 
-fn print_output(output: &[u8]) {
-    if output.len() < 32 {
-        io::write_all(1, b" [");
-        io::write_all(1, output);
-        io::write_all(1, b"]");
-    } else {
-        show::print_crc(output);
-    }
+// Length, room.
+pub fn write_back(fields: &[u8], buffer: &[u8]) {
+    rewrite(cases::front(buffer, size(fields, 2)), size(fields, 3));
+    io::write_all(1, b"\n");
 }
 
 // Runs a stream into a buffer of so many bytes: the answer, the output or, of a long one, its CRC, and whether the rest is as it was.
-pub fn run<'a>(image: &'a [u8], start: u64, stream: &'a [u8], room: usize) {
-    let mut buffer = images::marks();
-    let answer = run_into_front(image, start, stream, &mut buffer, room);
-    show::print_answer(answer);
-    let n = show::written(answer);
-    print_output(show::front(&buffer, n));
-    show::print_kept(&buffer, n);
+fn run<'a>(image: &'a [u8], start: u64, stream: &'a [u8], room: usize) {
+    let mut buffer = show::marks();
+    let n = cases::at_most(room, &buffer);
+    let answer = image::run::run(image, start, stream, &mut buffer[..n]);
+    cases::print_answer(answer);
+    let output = cases::written(answer, &buffer);
+    show::print_output(output);
+    cases::print_kept(&buffer, output.len());
+    io::write_all(1, b"\n");
 }
 
-// Both, behind what a line tells of the image.
-pub fn image(image: &[u8]) {
-    io::write_all(1, b":");
+// Start, the stream's length and what it repeats, room. Each of these images has 1,024 bytes.
+pub fn run_from(fields: &[u8], buffer: &[u8]) {
+    let mut stream = [0u8; 4097];
+    cases::repeat(field(fields, 4), &mut stream);
+    run(
+        cases::front(buffer, 1024),
+        number(field(fields, 2)),
+        cases::front(&stream, size(fields, 3)),
+        size(fields, 5),
+    );
+}
+
+// Length. The image is written back, and run over.
+pub fn both(fields: &[u8], buffer: &[u8]) {
+    let image = cases::front(buffer, size(fields, 2));
     rewrite(image, 7168);
-    io::write_all(1, b"; run");
+    io::write_all(1, b"; run ");
     run(image, 0, b"ssl0l", 8192);
+}
+
+fn read_words(image: &[u8], rows: &mut [u16]) {
+    let reading = image::reader::read(image, rows);
+    let verdict = reading.verdict;
+    show::print_verdict(verdict);
+    show::print_words(rows);
     io::write_all(1, b"\n");
+}
+
+// How many words the image is read into.
+pub fn read(fields: &[u8], buffer: &[u8]) {
+    let mut rows = [7u16; 61];
+    let n = size(fields, 2);
+    if n <= 61 {
+        read_words(cases::front(buffer, 1024), &mut rows[..n]);
+    }
 }

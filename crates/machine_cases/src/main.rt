@@ -1,9 +1,9 @@
 // Machines: situations/states, or the refusal, of every built-in model on every other, a line for each upstream model, first the sparing way and
-// then the full way; the rows of TSO on ARM, both ways, a line for each state and letter with its fence and the next state; and the models at the
-// limits, the sparing way and the full way.
+// then the full way; the rows of TSO on ARM, both ways, a line for each state and letter with its fence and the next state; and the models on
+// standard input, the sparing way and the full way: behind a heading, a name and two texts, with a bar behind each. These are at the limits: 4,096
+// situations and one more, 255 states and one more, and both too many.
 // The stored output comes from the model in `host/model`, which shares nothing with this code: `tools/expect-machine-cases` asks it for each pair.
-mod limits;
-
+use cases::fields::field;
 use machine::machine::Machine;
 use machine::machine::Outcome;
 use models::model::Model;
@@ -61,14 +61,18 @@ fn print_outcome(outcome: Outcome) {
     }
 }
 
+fn try_models(way: u64, upstream: Model, target: Model) {
+    let mut rows = [0u16; WORDS];
+    print_outcome(generate(way, upstream, target, &mut rows));
+}
+
 fn built_in_pair(way: u64, upstream: u64, target: u64) {
     let one = built_ins::built_in(upstream);
     let two = built_ins::built_in(target);
     let from = one.model;
     let onto = two.model;
-    let mut rows = [0u16; WORDS];
     io::write_all(1, b" ");
-    print_outcome(generate(way, from, onto, &mut rows));
+    try_models(way, from, onto);
 }
 
 fn built_in_row(way: u64, upstream: u64) {
@@ -183,24 +187,21 @@ fn tso_on_arm(way: u64) {
     }
 }
 
-fn try_models(way: u64, upstream: Model, target: Model) {
-    let mut rows = [0u16; WORDS];
-    io::write_all(1, b", ");
-    print_outcome(generate(way, upstream, target, &mut rows));
-}
-
-fn try_pair<'a>(name: &'a [u8], upstream: &'a [u8], target: &'a [u8]) {
-    let one = models::reader::read(upstream);
-    let two = models::reader::read(target);
+// The fields: a name, the upstream text, the target text.
+fn try_pair(fields: &[u8]) {
+    let one = models::reader::read(field(fields, 1));
+    let two = models::reader::read(field(fields, 2));
     let verdict = one.verdict;
     let other = two.verdict;
-    io::write_all(1, name);
+    io::write_all(1, field(fields, 0));
     match verdict {
         Verdict::Accepted => match other {
             Verdict::Accepted => {
                 let from = one.model;
                 let onto = two.model;
+                io::write_all(1, b", ");
                 try_models(0, from, onto);
+                io::write_all(1, b", ");
                 try_models(1, from, onto);
                 io::write_all(1, b"\n");
             }
@@ -214,10 +215,24 @@ fn try_pair<'a>(name: &'a [u8], upstream: &'a [u8], target: &'a [u8]) {
     }
 }
 
+fn try_pairs(input: &[u8]) {
+    let mut k = 1;
+    while k < input.len() {
+        let fields = cases::fields::rest(input, k);
+        if fields.len() == 0 {
+            return;
+        }
+        try_pair(fields);
+        k += 3;
+    }
+}
+
 fn main() {
     built_ins(0);
     built_ins(1);
     tso_on_arm(0);
     tso_on_arm(1);
-    limits::limits();
+    let mut input = io::large_buffer();
+    let n = io::read_full(0, &mut input);
+    try_pairs(&input[..n]);
 }

@@ -1,64 +1,24 @@
 // Tries the calls on models. It writes the text of each built-in model and reads it back, compares every two of them, and then reads each
-// of the texts on standard input, which are kept apart by zero bytes.
-ghost use Prim.Native.Nat.{_≤_};
-ghost use lib.ListN.{length};
+// of the texts on standard input, which have a bar behind each, behind a heading.
 use answers::Answer;
 use comparison::Compared;
 
-fn print_answer(answer: Answer) {
-    let numbers = answer.numbers();
-    io::print_decimal(1, numbers[0]);
-    io::write_all(1, b" ");
-    io::print_decimal(1, numbers[1]);
-    io::write_all(1, b" ");
-    io::print_decimal(1, numbers[2]);
-    io::write_all(1, b" ");
-    io::print_decimal(1, numbers[3]);
-    io::write_all(1, b" ");
-    io::print_decimal(1, numbers[4]);
+fn print_line(answer: Answer) {
+    cases::print_answer(answer);
     io::write_all(1, b"\n");
-}
-
-// The bytes that a call has written to a buffer.
-fn written(answer: Answer, out: &[u8]) -> &[u8] {
-    let numbers = answer.numbers();
-    front(out, numbers[2] as usize)
-}
-
-fn front(bytes: &[u8], n: usize) -> &[u8] {
-    if n <= bytes.len() { &bytes[..n] } else { bytes }
-}
-
-// Writes a text back to the front of a buffer.
-fn rewrite_front(text: &[u8], out: &mut [u8], room: usize) -> Answer {
-    if room <= out.len() {
-        return writing::rewrite(text, &mut out[..room]);
-    }
-    writing::rewrite(text, out)
-}
-
-// Whether every byte from a place on is the one that the buffer was filled with.
-fn kept(out: &[u8], from: usize) -> bool {
-    let mut i = from;
-    while i < out.len() {
-        if out[i] != b'#' {
-            return false;
-        }
-        i += 1;
-    }
-    true
 }
 
 // Reads a text, writes it back to a buffer of so many bytes, and says whether the bytes are the same again and those behind them kept.
 fn try_text(text: &[u8], room: usize) {
     let mut out = [b'#'; 1024];
-    let answer = rewrite_front(text, &mut out, room);
-    print_answer(answer);
-    let back = written(answer, &out);
+    let n = cases::at_most(room, &out);
+    let answer = writing::rewrite(text, &mut out[..n]);
+    print_line(answer);
+    let back = cases::written(answer, &out);
     if check::same(back, text) {
         io::write_all(1, b"same\n");
     }
-    if !kept(&out, back.len()) {
+    if !cases::kept(&out, back.len()) {
         io::write_all(1, b"more was written\n");
     }
 }
@@ -66,8 +26,8 @@ fn try_text(text: &[u8], room: usize) {
 fn try_built_in(number: u64) {
     let mut out = [0u8; 1024];
     let answer = built_ins::write_built_in(number, &mut out);
-    print_answer(answer);
-    let text = written(answer, &out);
+    print_line(answer);
+    let text = cases::written(answer, &out);
     io::write_all(1, text);
     let n = text.len();
     if 0 < n {
@@ -104,7 +64,7 @@ fn compare_built_ins(first: u64, second: u64) {
     let a = built_ins::write_built_in(first, &mut one);
     let mut two = [0u8; 1024];
     let b = built_ins::write_built_in(second, &mut two);
-    print_compared(comparison::compare(written(a, &one), written(b, &two)));
+    print_compared(comparison::compare(cases::written(a, &one), cases::written(b, &two)));
 }
 
 fn compare_row(first: u64) {
@@ -124,42 +84,28 @@ fn compare_all() {
     }
 }
 
-// Where a text ends: at the next zero byte, or at the end of the input.
-fn text_end(input: &[u8], start: usize) -> usize
-    requires { ⌜ start ≤ length (now input) ⌝ }
-    ensures { λ r. ⌜ (start ≤ r) × (r ≤ length (now (input .entry))) ⌝ }
-{
-    let mut at = start;
-    while at < input.len() {
-        if input[at] == 0 {
-            return at;
-        }
-        at += 1;
-    }
-    at
-}
-
 // A text by itself, and beside a good one in a comparison: the refusal of the first text goes first.
 fn try_input(text: &[u8]) {
     try_text(text, 1024);
     let mut out = [0u8; 1024];
     let answer = built_ins::write_built_in(1, &mut out);
-    let good = written(answer, &out);
+    let good = cases::written(answer, &out);
     print_compared(comparison::compare(text, good));
     io::write_all(1, b" ");
     print_compared(comparison::compare(good, text));
     io::write_all(1, b"\n");
 }
 
+// Behind the heading.
 fn try_inputs(input: &[u8]) {
-    let mut at = 0;
-    while at < input.len() {
-        let end = text_end(input, at);
-        try_input(&input[at..end]);
-        if end == input.len() {
+    let mut k = 1;
+    while k < input.len() {
+        let rest = cases::fields::rest(input, k);
+        if rest.len() == 0 {
             return;
         }
-        at = end + 1;
+        try_input(cases::fields::field(rest, 0));
+        k += 1;
     }
 }
 

@@ -1,30 +1,33 @@
 -- `print_checks` is safe and ends. Assumes nothing.
-use Prim.Native.Nat.{_-_}
+use Prim.Native.Nat.{_-_, _≤_}
 use lib.ListN.{length}
 use borrow.Author.Needs.{needs}
 use Rattle.image_cases.proofs.show.print_checks.Statement.{statement}
 use Rattle.image_cases.proofs.show.print_checks.Tie as tie
 
 abbrev Inv-loop : tie.InvT-loop
-Inv-loop image b₀ b = Unit
+Inv-loop image at₀ at = 511 ≤ at
 
 abbrev μ-loop : tie.MeasureT-loop
-μ-loop image b₀ b = length image - b
+μ-loop image at₀ at = length image - at
 
 loop-holds : tie.Need-loop-holds Inv-loop μ-loop
 loop-holds c = search needs
 
-mul-print-check : tie.Need-mul-print-check Inv-loop μ-loop
-mul-print-check c = search needs
+sub-print-check : tie.Need-sub-print-check Inv-loop μ-loop
+sub-print-check c = search needs
 
-add-print-check : tie.Need-add-print-check Inv-loop μ-loop
-add-print-check c = search needs
+shared-slice-read-print-check : tie.Need-shared-slice-read-print-check Inv-loop μ-loop
+shared-slice-read-print-check c = search needs
+
+shared-slice-read-print-check-2 : tie.Need-shared-slice-read-print-check-2 Inv-loop μ-loop
+shared-slice-read-print-check-2 c = search needs
 
 print-check-requires : tie.Need-print-check-requires Inv-loop μ-loop
 print-check-requires c κs = search needs
 
-add-b : tie.Need-add-b Inv-loop μ-loop
-add-b c = search needs
+add-at : tie.Need-add-at Inv-loop μ-loop
+add-at c = search needs
 
 loop-less : tie.Need-loop-less Inv-loop μ-loop
 loop-less c = search needs
@@ -42,10 +45,11 @@ print-checks-spec =
     Inv-loop
     μ-loop
     loop-holds
-    mul-print-check
-    add-print-check
+    sub-print-check
+    shared-slice-read-print-check
+    shared-slice-read-print-check-2
     print-check-requires
-    add-b
+    add-at
     loop-less
     loop-again
     returns)

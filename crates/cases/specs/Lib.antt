@@ -1,0 +1,2 @@
+pub mod Buffer
+pub mod Fields

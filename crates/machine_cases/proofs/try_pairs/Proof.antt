@@ -1,0 +1,51 @@
+-- `try_pairs` is safe and ends. Assumes nothing.
+use Prim.Native.Nat.{_-_}
+use lib.ListN.{length}
+use borrow.Author.Needs.{needs}
+use Rattle.machine_cases.proofs.try_pairs.Statement.{statement}
+use Rattle.machine_cases.proofs.try_pairs.Tie as tie
+
+abbrev Inv-loop : tie.InvT-loop
+Inv-loop input k₀ k = Unit
+
+abbrev μ-loop : tie.MeasureT-loop
+μ-loop input k₀ k = length input - k
+
+loop-holds : tie.Need-loop-holds Inv-loop μ-loop
+loop-holds c = search needs
+
+rest-requires : tie.Need-rest-requires Inv-loop μ-loop
+rest-requires c κs = search needs
+
+returns : tie.Need-returns Inv-loop μ-loop
+returns c = search needs
+
+try-pair-requires : tie.Need-try-pair-requires Inv-loop μ-loop
+try-pair-requires c κs = search needs
+
+add-k : tie.Need-add-k Inv-loop μ-loop
+add-k c = search needs
+
+loop-less : tie.Need-loop-less Inv-loop μ-loop
+loop-less c = search needs
+
+loop-again : tie.Need-loop-again Inv-loop μ-loop
+loop-again c = search needs
+
+returns-2 : tie.Need-returns-2 Inv-loop μ-loop
+returns-2 c = search needs
+
+pub try-pairs-spec : {M : Type 1} → statement M
+try-pairs-spec =
+    tie.close
+    (tie.spec
+    Inv-loop
+    μ-loop
+    loop-holds
+    rest-requires
+    returns
+    try-pair-requires
+    add-k
+    loop-less
+    loop-again
+    returns-2)
