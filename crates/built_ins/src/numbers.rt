@@ -423,7 +423,7 @@ fn built_name(index: u64) -> Name
     held::first_bytes(&names[start..])
 }
 
-pub fn built_model(n: usize) -> Model
+pub(crate) fn built_model(n: usize) -> Model
     requires { ⌜ n < 16 ⌝ }
     ensures { λ r. ⌜ r ≡ modelFrom n ⌝ }
 {

@@ -146,7 +146,7 @@ fn put_fences(
 }
 
 // The whole text.
-pub fn put_model(buf: &mut [u8], model: Model) -> usize
+pub(crate) fn put_model(buf: &mut [u8], model: Model) -> usize
     requires { ⌜ 739 ≤ length (now buf) ⌝ }
     ensures { λ r. ⌜ Put (now (buf .entry)) (now (buf .exit)) 0 r (textOf (described model)) ⌝ }
     ensures { λ r. ⌜ r ≤ 739 ⌝ }
