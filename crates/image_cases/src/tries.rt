@@ -59,9 +59,9 @@ fn run_into_front<'a>(
     room: usize,
 ) -> Answer {
     if room <= buffer.len() {
-        return image::run::run(image, start, stream, &mut buffer[..room]);
+        return image_runs::run(image, start, stream, &mut buffer[..room]);
     }
-    image::run::run(image, start, stream, buffer)
+    image_runs::run(image, start, stream, buffer)
 }
 
 fn print_output(output: &[u8]) {
