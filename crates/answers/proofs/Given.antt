@@ -1,6 +1,6 @@
 -- Laws of what a call has to give. Assumes nothing.
 use Prim.Native.Nat.{ℕ}
-use mathlib.Core.Path.{_≡_, refl, sym, ap, _∙_}
+use mathlib.Core.Path.{_≡_, refl, sym, ap, subst, _∙_}
 use mathlib.Core.List.{List}
 use lib.ListN.{length}
 use Rattle.answers.specs.declared.Refusal.{Refusal}
@@ -22,3 +22,10 @@ one-answer one {out = out} a b =
       a .answer ∙ ap (λ (g : Given). answerOf g (length out)) e ∙ sym (b .answer),
       a .buffer ∙ ap (λ (g : Given). bufferOf g out) e ∙ sym (b .buffer),
     )
+
+-- where what is to be given is known: a call answers it
+abbrev pub Answered : Given → List ℕ → Answer → List ℕ → Type 0
+Answered g out r after = (r ≡ answerOf g (length out)) × (after ≡ bufferOf g out)
+
+pub answered-same : (g h : Given) (out : List ℕ) (r : Answer) (after : List ℕ) → g ≡ h → Answered g out r after → Answered h out r after
+answered-same g h out r after e a = subst (λ (x : Given). Answered x out r after) e a

@@ -29,15 +29,15 @@ use Rattle.machine.specs.Rows.{decoded}
 use Rattle.machine.specs.Generated.{Making}
 use Rattle.machine.proofs.Letters.{choice-low}
 use Rattle.image.specs.declared.machine.Header.{Header}
-use Rattle.image.specs.declared.run.Stop.{Stop}
-use Rattle.image.specs.declared.run.Move.{Move}
-use Rattle.image.specs.declared.run.Step.{Step}
+use Rattle.image_runs.specs.declared.Stop.{Stop}
+use Rattle.image_runs.specs.declared.Move.{Move}
+use Rattle.image_runs.specs.declared.Step.{Step}
 use Rattle.layout.specs.Layout.{at, position}
 use Rattle.layout.specs.Barred.{upstreamFencesOf}
 use Rattle.image.specs.Image.{word, imageOf, Canonical}
-use Rattle.image.specs.Run.{letterOf, accessStep, stepAs, stepAt, Ran, ended, stopped, behind, resumed, ran, refusalOf}
+use Rattle.image_runs.specs.Run.{letterOf, accessStep, stepAs, stepAt, Ran, ended, stopped, behind, resumed, ran, refusalOf}
 use Rattle.image.proofs.Canonicals.{ups-image, fence-image, next-image, onward-image}
-use Rattle.image.proofs.Steps.{step-refused, step-plain, step-fenced}
+use Rattle.image_runs.proofs.Steps.{step-refused, step-plain, step-fenced}
 use Rattle.generation.proofs.Standing.{decoded-taken, decoded-refused, access-step, fence-step, letter-small, access-small, Stands, Alike, halt, lead, alike}
 
 module _ (way : Way) (up target : Model) (ups-few : length (up .fences) ≤ 16) (few : length (target .fences) ≤ 16) {x : Machine} {blank rows : List ℕ}

@@ -3,11 +3,10 @@ use Prim.Native.Nat.{ℕ, _<_}
 use mathlib.Core.Path.{_≡_, refl, sym, ap, subst, _∙_}
 use mathlib.Core.List.{List}
 use native.Mathlib.Omega.{arith}
-use lib.ListN.{length}
 use Rattle.answers.specs.declared.Refusal.{Refusal}
 use Rattle.answers.specs.declared.Answer.{Answer}
-use Rattle.answers.specs.Given.{Given, refuses, answerOf, bufferOf, Answers}
-use Rattle.answers.proofs.Given.{answers-refusal, answers-by}
+use Rattle.answers.specs.Given.{Given, refuses, Answers}
+use Rattle.answers.proofs.Given.{answers-refusal, answers-by, Answered, answered-same}
 use Rattle.tables.specs.declared.table.Table.{Table}
 use Rattle.rule.specs.declared.way.Way.{Way}
 use Rattle.rule.specs.Rule.{wayNumber}
@@ -25,10 +24,8 @@ use Rattle.generation.specs.Generating.{givenBy, onWay, onVerdict, Given
 
 -- what is answered for an outcome is answered for one that is equal to it
 pub answers-so : (upstream target : Name) (rows out : List ℕ) {x y : Outcome} {r : Answer} {after : List ℕ} → x ≡ y
-    → (r ≡ answerOf (givenBy y upstream target rows) (length out)) × (after ≡ bufferOf (givenBy y upstream target rows) out)
-    → (r ≡ answerOf (givenBy x upstream target rows) (length out)) × (after ≡ bufferOf (givenBy x upstream target rows) out)
-answers-so upstream target rows out {r = r} {after = after} e h =
-    subst (λ (z : Outcome). (r ≡ answerOf (givenBy z upstream target rows) (length out)) × (after ≡ bufferOf (givenBy z upstream target rows) out)) (sym e) h
+    → Answered (givenBy y upstream target rows) out r after → Answered (givenBy x upstream target rows) out r after
+answers-so upstream target rows out e h = answered-same _ _ out _ _ (ap (λ (z : Outcome). givenBy z upstream target rows) (sym e)) h
 
 way-small : (way : Way) → wayNumber way < 256
 way-small Way.Sparing = omega arith

@@ -21,7 +21,7 @@ use Rattle.machine.specs.declared.machine.Machine.{Machine}
 use Rattle.machine.specs.Shim.{kindOf, stepAnswer, lettersOf, shim}
 use Rattle.machine.specs.Rows.{decoded, rowOf}
 use Rattle.machine.specs.Generated.{Making}
-use Rattle.image.specs.Run.{letterOf}
+use Rattle.image_runs.specs.Run.{letterOf}
 
 -- what a word says of its halves
 pub decoded-taken : (w o j : ℕ) → decoded w ≡ taken o j → (w / 256 ≡ o) × (w % 256 ≡ j)

@@ -34,11 +34,11 @@ use Rattle.image.specs.declared.machine.Header.{Header}
 use Rattle.layout.specs.Layout.{blocksFor}
 use Rattle.layout.specs.Barred.{statesOf, verdictOf}
 use Rattle.image.specs.Image.{stride, imageOf, headerOf, rowsOf, Canonical}
-use Rattle.image.specs.Run as over
-use Rattle.image.specs.Run.{ran, runOver, outcomeOf}
+use Rattle.image_runs.specs.Run as over
+use Rattle.image_runs.specs.Run.{ran, runOver, outcomeOf}
 use Rattle.image.proofs.Canonicals.{states-image}
-use Rattle.image.proofs.Runs.{then}
-use Rattle.image.proofs.Theorems.{written-accepted, written-header, written-rows, written-length, goes-on}
+use Rattle.image.proofs.Theorems.{written-accepted, written-header, written-rows, written-length}
+use Rattle.image_runs.proofs.Theorems.{then, goes-on}
 use Rattle.generation.specs.Generating.{headerFor, givenBy, blank, MachineGiven, onWay, onVerdict, GivenOnto, GivenUnder, ImageGiven}
 use Rattle.generation.proofs.Standing.{first-stands}
 use Rattle.generation.proofs.Running.{AlikeRuns, ends, halts, runs-alike}

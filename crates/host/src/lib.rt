@@ -9,8 +9,8 @@ ghost use Rattle.built_ins.specs.BuiltIns.{builtIn, builtInReading};
 ghost use Rattle.writing.specs.Calls.{answerAfter, bufferAfter};
 ghost use Rattle.comparison.specs.Comparison.{comparing};
 ghost use Rattle.runs.specs.Call.{outcome, answerOf, bufferOf};
-ghost use Rattle.image.specs.Run.{runOver};
 ghost use Rattle.image.specs.Calls.{writtenBack, headerAs};
+ghost use Rattle.image_runs.specs.Run.{runOver};
 ghost use Rattle.answers.specs.Given as Given;
 ghost use Rattle.generation.specs.Generating.{ImageGiven};
 ghost use Rattle.listing.specs.Listed.{Listed};
@@ -105,7 +105,7 @@ pub extern "C" fn shim_image_run<'a>(
     ensures answer { λ _. ⌜ now (answer .exit) ≡ numbersOf (Given.answerOf (runOver (now (image .entry)) start (now (stream .entry))) (length (now (out .entry)))) ⌝ }
     ensures buffer { λ _. ⌜ now (out .exit) ≡ Given.bufferOf (runOver (now (image .entry)) start (now (stream .entry))) (now (out .entry)) ⌝ }
 {
-    tell(image::run::run(image, start, stream, out), answer)
+    tell(image_runs::run(image, start, stream, out), answer)
 }
 
 // The listing of an input: two models, a way and a stream.

@@ -1,22 +1,24 @@
 -- Words read from an image. Assumes nothing.
 use Prim.Native.Nat.{ℕ, _+_, _-_, _*_, _<_, _≤_}
-use mathlib.Core.Path.{_≡_, refl, sym, ap, ap₂, _∙_}
+use mathlib.Core.Path.{_≡_, ap, ap₂, _∙_}
 use mathlib.Core.List.{List}
 use borrow.Author.Tests.{lt-ltb, le-ltb}
 use Rattle.layout.specs.Checksum.{twoBytes}
-use Rattle.layout.specs.Layout.{at, position}
+use Rattle.layout.specs.Layout.{at, entryStart}
 use Rattle.image.specs.Image.{entryWord}
 
-module _ (image : List ℕ) (s a : ℕ) where
-  pub entry-access : (i j f n : ℕ) → a < 4 → i ≡ position 1 s (2 * a) → j ≡ position 1 s (2 * a + 1) → f ≡ at image i → n ≡ at image j
-      → 256 * f + n ≡ entryWord image s a
+module _ (image : List ℕ) (s a : ℕ) (entry : ℕ) (start : entry ≡ entryStart 1 s) where
+  byte-of : (o : ℕ) → at image (entry + o) ≡ at image (entryStart 1 s + o)
+  byte-of o = ap (λ (x : ℕ). at image (x + o)) start
+
+  pub entry-access : (f n : ℕ) → a < 4 → f ≡ at image (entry + 2 * a) → n ≡ at image (entry + (2 * a + 1)) → 256 * f + n ≡ entryWord image s a
   unfolding entryWord
-  entry-access i j f n l p q e h = rw (lt-ltb _ _ l) (ap₂ twoBytes (e ∙ ap (at image) p) (h ∙ ap (at image) q))
+  entry-access f n l e h = rw (lt-ltb _ _ l) (ap₂ twoBytes (e ∙ byte-of (2 * a)) (h ∙ byte-of (2 * a + 1)))
 
   module _ (u : ℕ) (l : 4 ≤ a) (ups : u ≡ at image 5) where
-    pub entry-fence : (i n : ℕ) → a - 4 < u → i ≡ position 1 s (4 + a) → n ≡ at image i → 65280 + n ≡ entryWord image s a
+    pub entry-fence : (n : ℕ) → a - 4 < u → n ≡ at image (entry + (4 + a)) → 65280 + n ≡ entryWord image s a
     unfolding entryWord
-    entry-fence i n k p h = rw (le-ltb _ _ l, ← ups, lt-ltb _ _ k) (ap (twoBytes 255) (h ∙ ap (at image) p))
+    entry-fence n k h = rw (le-ltb _ _ l, ← ups, lt-ltb _ _ k) (ap (twoBytes 255) (h ∙ byte-of (4 + a)))
 
     pub entry-absent : u ≤ a - 4 → 0 ≡ entryWord image s a
     unfolding entryWord

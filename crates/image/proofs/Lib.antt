@@ -7,8 +7,5 @@ pub mod Inverse
 pub mod Accepted
 pub mod NameFields
 pub mod Canonicals
-pub mod Steps
-pub mod Runs
-pub mod Endings
 pub mod Theorems
 pub mod WrittenBack

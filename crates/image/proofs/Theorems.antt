@@ -1,17 +1,15 @@
 -- The theorems about images, as a reader wants to find them. Assumes nothing.
 use Prim.Native.Nat.{ℕ, _*_, _<_, _≤_}
 use mathlib.Core.Path.{_≡_}
-use mathlib.Core.List.{List, _++_}
+use mathlib.Core.List.{List}
 use lib.ListN.{length, take}
 use Rattle.layout.specs.declared.verdict.Verdict.{Verdict}
 use Rattle.image.specs.declared.machine.Header.{Header}
 use Rattle.layout.specs.Layout.{blocksFor, at}
 use Rattle.layout.specs.Barred.{verdictOf}
 use Rattle.image.specs.Image.{stride, imageOf, headerOf, rowsOf, Canonical}
-use Rattle.image.specs.Run.{Ran, ran}
 use Rattle.image.proofs.Accepted.{accepted-right, image-same, canonical-read}
 use Rattle.image.proofs.Canonicals.{length-image, canonical-accepted, same-header, same-rows-taken}
-use Rattle.image.proofs.Runs.{then, continued}
 
 -- an image of the layout: that of a machine of the layout
 pub record LaidOut (image : List ℕ) : Type 0 where
@@ -51,8 +49,3 @@ module _ (h : Header) (rows : List ℕ) (machine : Canonical h rows) where
 
   pub written-length : length (imageOf h rows) ≡ 512 * blocksFor 1 (h .states)
   written-length = length-image h rows machine
-
--- From the end state of one run over an image it goes on as the one stream would.
-pub goes-on : (image : List ℕ) (s : ℕ) (first second : List ℕ)
-    → ran image s (first ++ second) ≡ then (length first) (ran image s first) (λ (t : ℕ). ran image t second)
-goes-on = continued

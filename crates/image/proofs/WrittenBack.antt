@@ -16,9 +16,9 @@ use Rattle.layout.specs.Layout.{at}
 use Rattle.layout.specs.Barred.{statesOf, upstreamFencesOf, targetFencesOf, verdictOf}
 use Rattle.image.specs.Image.{stride, imageOf, headerOf, rowsOf, readAs, rowsAs, readingOf, rowsAfter}
 use Rattle.answers.specs.Given.{refuses, gives}
+use Rattle.answers.proofs.Given.{Answered, answered-same}
 use Rattle.image.specs.Calls.{backAs, writtenBack, headerAs}
 use Rattle.image.proofs.Readings.{length-rows}
-use Rattle.image.proofs.Endings.{Answers, answers-same}
 use Rattle.image.proofs.Theorems.{read-then-written}
 
 -- the call's own rows
@@ -49,10 +49,10 @@ module _ (image : List ℕ) (bytes : (i : ℕ) → at image i < 256) where
     verdict-is = ap (λ (x : Reading). x .verdict) is ∙ verdict-kept (verdictOf image)
 
     pub back-refused : (why : Refusal) (out : List ℕ) → r .verdict ≡ Verdict.Refused why
-        → Answers (writtenBack image) out (Answer.Refused why) out
+        → Answered (writtenBack image) out (Answer.Refused why) out
     unfolding writtenBack
     back-refused why out v =
-        answers-same (refuses why) (writtenBack image) out _ _ (ap (backAs image) (sym v ∙ verdict-is)) (refl, refl)
+        answered-same (refuses why) (writtenBack image) out _ _ (ap (backAs image) (sym v ∙ verdict-is)) (refl, refl)
 
     module _ (v : r .verdict ≡ Verdict.Accepted) where
       accepted : verdictOf image ≡ Verdict.Accepted
@@ -76,11 +76,11 @@ module _ (image : List ℕ) (bytes : (i : ℕ) → at image i < 256) where
       pub back-accepted : (n : ℕ) (rows′ out out′ : List ℕ) (a : Answer) → n ≡ r .header .states → rows′ ≡ rowsAfter image rows
           → (a ≡ writing (imageOf (r .header) (take (n * stride) rows′)) 0 0 (length out))
           × (out′ ≡ written (imageOf (r .header) (take (n * stride) rows′)) out)
-          → Answers (writtenBack image) out a out′
+          → Answered (writtenBack image) out a out′
       unfolding writtenBack
       back-accepted n rows′ out out′ a e w h =
           let s = same-image n rows′ e w in
-          answers-same (gives image 0 0) (writtenBack image) out a out′ (ap (backAs image) (sym accepted))
+          answered-same (gives image 0 0) (writtenBack image) out a out′ (ap (backAs image) (sym accepted))
           (h .0 ∙ ap (λ (l : List ℕ). writing l 0 0 (length out)) s, h .1 ∙ ap (λ (l : List ℕ). written l out) s)
 
 -- the four numbers of an image that was written back

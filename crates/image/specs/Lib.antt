@@ -1,3 +1,2 @@
 pub mod Image
-pub mod Run
 pub mod Calls

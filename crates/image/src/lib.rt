@@ -1,6 +1,5 @@
-// The machine image: blocks of 512 bytes, read, written and run over.
+// The machine image: blocks of 512 bytes, read and written.
 pub mod calls;
 pub mod machine;
 pub mod reader;
-pub mod run;
 pub mod writer;

@@ -1,36 +1,29 @@
 // Reading an image to a machine.
 ghost use mathlib.Core.Path.{_≡_};
-ghost use Prim.Native.Nat.{ℕ, _+_, _*_, _/_, _%_, _^_, _<_, _≤_};
+ghost use Prim.Native.Nat.{ℕ, _+_, _*_, _/_, _%_, _<_, _≤_};
 ghost use lib.ListN.{length};
-ghost use Rattle.layout.specs.Layout.{at, position};
-ghost use Rattle.layout.specs.Barred.{statesOf};
-ghost use Rattle.image.specs.Image.{listed, stride, headerOf, entryWord, rowsOf, refusedReading, readAs, rowsAs, readingOf, rowsAfter, Front, Filled};
+ghost use Rattle.layout.specs.Layout.{at};
+ghost use Rattle.image.specs.Image.{listed, stride, headerOf, entryWord, refusedReading, readAs, rowsAs, readingOf, rowsAfter, Filled};
 use crate::machine::Header;
 use crate::machine::Reading;
 use answers::Refusal;
+use layout::places;
 use layout::verdict;
 use layout::verdict::Verdict;
 
-// Where byte o of a state's entry stands.
-pub(crate) fn position(state: usize, o: usize) -> usize
-    requires { ⌜ (state < 2 ^ 32) × (o < 2 ^ 32) ⌝ }
-    ensures { λ r. ⌜ r ≡ position 1 state o ⌝ }
-{
-    512 * (1 + state / 21) + 2 + 24 * (state % 21) + o
-}
-
 // The word of a state and a letter.
-pub(crate) fn entry_word(image: &[u8], state: usize, letter: usize) -> u16
-    requires { ⌜ (state < 2 ^ 32) × (letter < stride) ⌝ }
+fn entry_word(image: &[u8], state: u8, letter: usize) -> u16
+    requires { ⌜ letter < stride ⌝ }
     ensures { λ r. ⌜ r ≡ entryWord (now (image .entry)) state letter ⌝ }
 {
+    let entry = places::entry_start(state);
     if letter < 4 {
-        let fence = verdict::number_at(image, position(state, 2 * letter));
-        let next = verdict::number_at(image, position(state, 2 * letter + 1));
+        let fence = verdict::number_at(image, entry + 2 * letter);
+        let next = verdict::number_at(image, entry + (2 * letter + 1));
         return (256 * fence + next) as u16;
     }
     if letter - 4 < verdict::number_at(image, 5) {
-        let next = verdict::number_at(image, position(state, 4 + letter));
+        let next = verdict::number_at(image, entry + (4 + letter));
         return (256 * 255 + next) as u16;
     }
     0
@@ -69,7 +62,7 @@ fn fill_rows(image: &[u8], rows: &mut [u16], count: usize)
 {
     let mut j = 0;
     while j < count {
-        rows[j] = entry_word(image, j / 20, j % 20);
+        rows[j] = entry_word(image, (j / 20) as u8, j % 20);
         j += 1;
     }
 }

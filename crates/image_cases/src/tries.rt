@@ -42,7 +42,7 @@ pub fn write_back(fields: &[u8], buffer: &[u8]) {
 fn run<'a>(image: &'a [u8], start: u64, stream: &'a [u8], room: usize) {
     let mut buffer = show::marks();
     let n = cases::at_most(room, &buffer);
-    let answer = image::run::run(image, start, stream, &mut buffer[..n]);
+    let answer = image_runs::run(image, start, stream, &mut buffer[..n]);
     cases::print_answer(answer);
     let output = cases::written(answer, &buffer);
     show::print_output(output);

@@ -70,6 +70,9 @@ blockPlace form b p =
 unfoldable pub standsAt : ℕ → ℕ → Place
 standsAt form i = blockPlace form (i / 512) (i % 512)
 
--- where byte o of a state's entry stands
+-- where a state's entry begins, and where its byte o stands
+abbrev pub entryStart : ℕ → ℕ → ℕ
+entryStart form state = 512 * (1 + state / statesToABlock form) + 2 + entrySize form * (state % statesToABlock form)
+
 abbrev pub position : ℕ → ℕ → ℕ → ℕ
-position form state o = 512 * (1 + state / statesToABlock form) + 2 + entrySize form * (state % statesToABlock form) + o
+position form state o = entryStart form state + o

@@ -1,7 +1,7 @@
 // What stands at each byte of an image.
 ghost use mathlib.Core.Path.{_≡_};
 ghost use Prim.Native.Nat.{_^_, _<_, _≤_};
-ghost use Rattle.layout.specs.Layout.{headerPlace, entryPlace, contentPlace, standsAt};
+ghost use Rattle.layout.specs.Layout.{limit, headerPlace, entryPlace, contentPlace, standsAt, entryStart};
 
 // A name's byte is counted from the name's first; an access or an upstream fence is its number.
 pub enum Place {
@@ -91,4 +91,12 @@ pub fn stands_at(i: usize) -> Place
         return Place::Nothing;
     }
     Place::Check
+}
+
+// Where a state's entry begins. A state is a byte, so that it begins within the longest image.
+pub fn entry_start(state: u8) -> usize
+    ensures { λ r. ⌜ (r ≡ entryStart 1 state) × (r < limit) ⌝ }
+{
+    let s = state as usize;
+    512 * (1 + s / STATES_TO_A_BLOCK) + 2 + ENTRY * (s % STATES_TO_A_BLOCK)
 }

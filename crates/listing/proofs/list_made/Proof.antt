@@ -1,14 +1,13 @@
 -- `list_made` meets its contract. Assumes nothing.
 use Prim.Native.Nat.{ℕ}
-use mathlib.Core.Path.{_≡_, refl, sym, subst}
+use mathlib.Core.Path.{_≡_, refl, sym, ap, subst}
 use mathlib.Core.List.{List}
 use denote.Ref.{now}
-use lib.ListN.{length}
 use Rattle.answers.specs.declared.Answer.{Answer}
 use Rattle.rule.specs.declared.way.Way.{Way}
 use Rattle.models.specs.declared.model.Name.{Name}
 use Rattle.machine.specs.declared.machine.Outcome.{Outcome}
-use Rattle.answers.specs.Given.{answerOf, bufferOf}
+use Rattle.answers.proofs.Given.{Answered, answered-same}
 use Rattle.listing.specs.Making.{madeGiven, MadeListable}
 use borrow.Author.Needs.{needs}
 use Rattle.listing.proofs.list_made.Statement.{statement}
@@ -16,10 +15,9 @@ use Rattle.listing.proofs.list_made.Tie as tie
 
 -- what is answered for an outcome is answered for one that is equal to it
 answers-so : (upstream target : Name) (way : Way) (rows output : List ℕ) (fences : ℕ) (out : List ℕ) {x y : Outcome} {r : Answer} {after : List ℕ} → x ≡ y
-    → (r ≡ answerOf (madeGiven y upstream target way rows output fences) (length out)) × (after ≡ bufferOf (madeGiven y upstream target way rows output fences) out)
-    → (r ≡ answerOf (madeGiven x upstream target way rows output fences) (length out)) × (after ≡ bufferOf (madeGiven x upstream target way rows output fences) out)
-answers-so upstream target way rows output fences out {r = r} {after = after} e h =
-    subst (λ (z : Outcome). (r ≡ answerOf (madeGiven z upstream target way rows output fences) (length out)) × (after ≡ bufferOf (madeGiven z upstream target way rows output fences) out)) (sym e) h
+    → Answered (madeGiven y upstream target way rows output fences) out r after → Answered (madeGiven x upstream target way rows output fences) out r after
+answers-so upstream target way rows output fences out e h =
+    answered-same _ _ out _ _ (ap (λ (z : Outcome). madeGiven z upstream target way rows output fences) (sym e)) h
 
 enum-known-made : tie.Need-enum-known-made
 enum-known-made c = search needs

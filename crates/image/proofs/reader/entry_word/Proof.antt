@@ -4,107 +4,112 @@ use Rattle.image.proofs.reader.entry_word.Statement.{statement}
 use Rattle.image.proofs.reader.entry_word.Tie as tie
 use Rattle.image.proofs.reader.entry_word.Reads as reads
 use Rattle.image.proofs.reader.entry_word.Lts as lts
-use Rattle.image.proofs.reader.position.Reads as position-reads
+use Rattle.layout.proofs.places.entry_start.Reads as entry-start-reads
 use Rattle.layout.proofs.verdict.number_at.Reads as number-at-reads
 
--- src/reader.rt:28:63
-mul-position : tie.Need-mul-position
-mul-position c = search needs
+-- src/reader.rt:20:9
+entry-start-requires : tie.Need-entry-start-requires
+entry-start-requires c κs = search needs
 
--- src/reader.rt:28:47
-position-requires : tie.Need-position-requires
-position-requires c κs = search needs
+-- src/reader.rt:22:55
+mul-number-at : tie.Need-mul-number-at
+mul-number-at c = search needs
 
--- src/reader.rt:28:13
+-- src/reader.rt:22:47
+add-number-at : tie.Need-add-number-at
+add-number-at c = search needs
+
+-- src/reader.rt:22:13
 number-at-requires : tie.Need-number-at-requires
 number-at-requires c κs = search needs
 
--- src/reader.rt:29:62
-mul-position-2 : tie.Need-mul-position-2
-mul-position-2 c = search needs
+-- src/reader.rt:23:54
+mul-number-at-2 : tie.Need-mul-number-at-2
+mul-number-at-2 c = search needs
 
--- src/reader.rt:29:62
-add-position : tie.Need-add-position
-add-position c = search needs
+-- src/reader.rt:23:46
+add-number-at-2 : tie.Need-add-number-at-2
+add-number-at-2 c = search needs
 
--- src/reader.rt:29:46
-position-requires-2 : tie.Need-position-requires-2
-position-requires-2 c κs = search needs
+-- src/reader.rt:23:46
+add-number-at-3 : tie.Need-add-number-at-3
+add-number-at-3 c = search needs
 
--- src/reader.rt:29:13
+-- src/reader.rt:23:13
 number-at-requires-2 : tie.Need-number-at-requires-2
 number-at-requires-2 c κs = search needs
 
--- src/reader.rt:30:17
+-- src/reader.rt:24:17
 mul-result : tie.Need-mul-result
 mul-result c = search needs
 
--- src/reader.rt:30:17
+-- src/reader.rt:24:17
 add-result : tie.Need-add-result
 add-result c = search needs
 
--- src/reader.rt:30:16
+-- src/reader.rt:24:16
 cast-result : tie.Need-cast-result
 cast-result c = search needs
 
--- src/reader.rt:30:9
+-- src/reader.rt:24:9
 returns : tie.Need-returns
-returns c = entry-access _ _ _ _ _ _ _ (c .before .before .before .before .if1 .taken) (c .before .before .before .position .ensures) (c .before .position2 .ensures) (c .before .before .number-at .ensures .0) (c .number-at2 .ensures .0)
+returns c = entry-access _ _ _ _ (c .before .before .before .entry-start .ensures .0) _ _ (c .before .before .if1 .taken) (c .before .number-at .ensures .0) (c .number-at2 .ensures .0)
 
--- src/reader.rt:32:21
+-- src/reader.rt:26:21
 number-at-requires-3 : tie.Need-number-at-requires-3
 number-at-requires-3 c κs = search needs
 
--- src/reader.rt:33:62
-add-position-2 : tie.Need-add-position-2
-add-position-2 c = search needs
+-- src/reader.rt:27:46
+add-number-at-4 : tie.Need-add-number-at-4
+add-number-at-4 c = search needs
 
--- src/reader.rt:33:46
-position-requires-3 : tie.Need-position-requires-3
-position-requires-3 c κs = search needs
+-- src/reader.rt:27:46
+add-number-at-5 : tie.Need-add-number-at-5
+add-number-at-5 c = search needs
 
--- src/reader.rt:33:13
+-- src/reader.rt:27:13
 number-at-requires-4 : tie.Need-number-at-requires-4
 number-at-requires-4 c κs = search needs
 
--- src/reader.rt:34:17
+-- src/reader.rt:28:17
 mul-result-2 : tie.Need-mul-result-2
 mul-result-2 c = search needs
 
--- src/reader.rt:34:17
+-- src/reader.rt:28:17
 add-result-2 : tie.Need-add-result-2
 add-result-2 c = search needs
 
--- src/reader.rt:34:16
+-- src/reader.rt:28:16
 cast-result-2 : tie.Need-cast-result-2
 cast-result-2 c = search needs
 
--- src/reader.rt:34:9
+-- src/reader.rt:28:9
 returns-2 : tie.Need-returns-2
-returns-2 c = entry-fence _ _ _ _ (c .before .before .before .before .if1 .left) (c .before .before .before .number-at3 .ensures .0) _ _ (c .before .before .if2 .taken) (c .before .position3 .ensures) (c .number-at4 .ensures .0)
+returns-2 c = entry-fence _ _ _ _ (c .before .before .before .before .entry-start .ensures .0) _ (c .before .before .before .if1 .left) (c .before .before .number-at3 .ensures .0) _ (c .before .if2 .taken) (c .number-at4 .ensures .0)
 
--- src/reader.rt:23:1
+-- src/reader.rt:16:1
 returns-3 : tie.Need-returns-3
-returns-3 c = entry-absent _ _ _ _ (c .before .before .if1 .left) (c .before .number-at3 .ensures .0) (c .if2 .left)
+returns-3 c = entry-absent _ _ _ _ (c .before .before .before .entry-start .ensures .0) _ (c .before .before .if1 .left) (c .before .number-at3 .ensures .0) (c .if2 .left)
 
 pub entry-word-spec : {M : Type 1} → statement M
 entry-word-spec =
     tie.close
     (tie.spec
-    mul-position
-    position-requires
+    entry-start-requires
+    mul-number-at
+    add-number-at
     number-at-requires
-    mul-position-2
-    add-position
-    position-requires-2
+    mul-number-at-2
+    add-number-at-2
+    add-number-at-3
     number-at-requires-2
     mul-result
     add-result
     cast-result
     returns
     number-at-requires-3
-    add-position-2
-    position-requires-3
+    add-number-at-4
+    add-number-at-5
     number-at-requires-4
     mul-result-2
     add-result-2

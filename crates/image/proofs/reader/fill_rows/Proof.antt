@@ -21,6 +21,9 @@ abbrev μ-loop : tie.MeasureT-loop
 loop-holds : tie.Need-loop-holds Inv-loop μ-loop
 loop-holds c = (omega arith, filled-none _ _)
 
+cast-entry-word : tie.Need-cast-entry-word Inv-loop μ-loop
+cast-entry-word c = search needs
+
 -- src/reader.rt:72:19
 entry-word-requires : tie.Need-entry-word-requires Inv-loop μ-loop
 entry-word-requires c κs = search needs
@@ -60,6 +63,7 @@ fill-rows-spec =
     Inv-loop
     μ-loop
     loop-holds
+    cast-entry-word
     entry-word-requires
     mul-rows
     slice-write-rows
