@@ -3,7 +3,6 @@ ghost use mathlib.Core.Path.{_≡_};
 ghost use Prim.Native.Nat.{ℕ, _+_, _*_, _/_, _%_, _^_, _<_, _≤_};
 ghost use lib.ListN.{length};
 ghost use Rattle.answers.specs.Written.{written, writing};
-ghost use Rattle.layout.specs.Layout.{blocksFor};
 ghost use Rattle.image.specs.Image.{word, half, used, sizeOf, valueAt, byteAt, imageOf, Front, sealed};
 use crate::machine::Header;
 use answers::Answer;
@@ -106,18 +105,12 @@ fn fill_block(h: Header, rows: &[u16], image: &mut [u8], b: usize)
     seal(image, b);
 }
 
-fn blocks_for(states: u8) -> usize
-    ensures { λ r. ⌜ (r ≡ blocksFor 1 states) × (r ≤ 14) ⌝ }
-{
-    1 + (checksum::wide(states) + 20) / 21
-}
-
 // Fills as many blocks as the states want.
 fn fill(h: Header, rows: &[u16], image: &mut [u8])
     requires { ⌜ length (now image) ≡ 7168 ⌝ }
     ensures { λ _. ⌜ Front (byteAt h (now (rows .entry))) (sizeOf h) (now (image .exit)) ⌝ }
 {
-    let count = blocks_for(h.states);
+    let count = places::blocks_for(h.states);
     let mut b = 0;
     while b < count {
         fill_block(h, rows, image, b);
@@ -132,6 +125,6 @@ pub fn write(h: Header, rows: &[u16], out: &mut [u8]) -> Answer
 {
     let mut image = [0u8; 7168];
     fill(h, rows, &mut image);
-    let n = 512 * blocks_for(h.states);
+    let n = 512 * places::blocks_for(h.states);
     answers::write_out(&image[..n], 0, 0, out)
 }

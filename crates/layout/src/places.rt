@@ -1,7 +1,7 @@
 // What stands at each byte of an image.
 ghost use mathlib.Core.Path.{_≡_};
 ghost use Prim.Native.Nat.{_^_, _<_, _≤_};
-ghost use Rattle.layout.specs.Layout.{limit, headerPlace, entryPlace, contentPlace, standsAt, entryStart};
+ghost use Rattle.layout.specs.Layout.{limit, blocksFor, headerPlace, entryPlace, contentPlace, standsAt, entryStart};
 
 // A name's byte is counted from the name's first; an access or an upstream fence is its number.
 pub enum Place {
@@ -99,4 +99,11 @@ pub fn entry_start(state: u8) -> usize
 {
     let s = state as usize;
     512 * (1 + s / STATES_TO_A_BLOCK) + 2 + ENTRY * (s % STATES_TO_A_BLOCK)
+}
+
+// How many blocks an image of so many states has.
+pub fn blocks_for(states: u8) -> usize
+    ensures { λ r. ⌜ (r ≡ blocksFor 1 states) × (r ≤ 14) ⌝ }
+{
+    1 + (states as usize + (STATES_TO_A_BLOCK - 1)) / STATES_TO_A_BLOCK
 }

@@ -149,7 +149,7 @@ fn is_wrong_count(image: &[u8], states: usize) -> bool
     if states == 0 {
         return true;
     }
-    image.len() != 512 * (1 + (states + 20) / 21)
+    image.len() != 512 * places::blocks_for(states as u8)
 }
 
 fn is_barred_fence(image: &[u8], state: usize, value: usize) -> bool

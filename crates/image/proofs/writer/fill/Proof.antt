@@ -11,7 +11,7 @@ use Rattle.image.proofs.writer.fill.Statement.{statement}
 use Rattle.image.proofs.writer.fill.Tie as tie
 use Rattle.image.proofs.writer.fill.Reads as reads
 use Rattle.image.proofs.writer.fill.Lts as lts
-use Rattle.image.proofs.writer.blocks_for.Reads as blocks-for-reads
+use Rattle.layout.proofs.places.blocks_for.Reads as blocks-for-reads
 use Rattle.image.proofs.writer.fill_block.Reads as fill-block-reads
 
 abbrev Inv-loop : tie.InvT-loop

@@ -8,7 +8,7 @@ use Rattle.image.proofs.writer.write.Tie as tie
 use Rattle.image.proofs.writer.write.Reads as reads
 use Rattle.image.proofs.writer.write.Lts as lts
 use Rattle.answers.proofs.write_out.Reads as write-out-reads
-use Rattle.image.proofs.writer.blocks_for.Reads as blocks-for-reads
+use Rattle.layout.proofs.places.blocks_for.Reads as blocks-for-reads
 use Rattle.image.proofs.writer.fill.Reads as fill-reads
 
 -- src/writer.rt:134:19

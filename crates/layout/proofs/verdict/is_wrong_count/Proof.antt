@@ -5,28 +5,24 @@ use Rattle.layout.proofs.verdict.is_wrong_count.Statement.{statement}
 use Rattle.layout.proofs.verdict.is_wrong_count.Tie as tie
 use Rattle.layout.proofs.verdict.is_wrong_count.Reads as reads
 use Rattle.layout.proofs.verdict.is_wrong_count.Lts as lts
+use Rattle.layout.proofs.places.blocks_for.Reads as blocks-for-reads
 
--- src/verdict.rt:149:9
 returns : tie.Need-returns
 unfolding wrongCount
 returns c = search tests
 
--- src/verdict.rt:151:32
-add-result : tie.Need-add-result
-add-result c = search needs
+cast-blocks-for : tie.Need-cast-blocks-for
+cast-blocks-for c = search needs
 
--- src/verdict.rt:151:27
-add-result-2 : tie.Need-add-result-2
-add-result-2 c = search needs
+blocks-for-requires : tie.Need-blocks-for-requires
+blocks-for-requires c κs = search needs
 
--- src/verdict.rt:151:20
 mul-result : tie.Need-mul-result
 mul-result c = search needs
 
--- src/verdict.rt:144:1
 returns-2 : tie.Need-returns-2
 unfolding wrongCount
-returns-2 c = search tests
+returns-2 c = rw (c .blocks-for .ensures .0) (search tests)
 
 pub is-wrong-count-spec : {M : Type 1} → statement M
-is-wrong-count-spec = tie.close (tie.spec returns add-result add-result-2 mul-result returns-2)
+is-wrong-count-spec = tie.close (tie.spec returns cast-blocks-for blocks-for-requires mul-result returns-2)
