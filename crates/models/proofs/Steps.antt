@@ -1,25 +1,31 @@
 -- One byte more of a pattern or of a name, at a place of the whole text: what the loops of `scan` go by. Assumes nothing.
 use Prim.Native.Nat.{ℕ, zero, suc, _+_, _-_, _≤_, _<_}
-use mathlib.Core.Path.{_≡_, refl, sym, ap, ap₂, _∙_}
+use mathlib.Core.Path.{_≡_, refl, sym, ap, ap₂, subst, _∙_}
 use mathlib.Core.Bool.{Bool, true, false}
 use mathlib.Core.List.{List, [], _∷_}
 use native.Mathlib.Omega.{arith}
 use native.Mathlib.Nat.{add-zero}
 use native.Mathlib.Numerals.{add-one}
+use native.Mathlib.Decide.{decLt, ℕ-discrete}
 use borrow.Author.Tests.{eq-eqb, ne-eqb, lt-ltb, le-ltb}
 use lib.Dec.{T, eqb, ltb}
-use lib.ListN.{length, drop, getD, drop-of-length-le, length-drop}
-use lib.Seq.{drop-cons, getD-drop}
+use lib.ListN.{length, take, drop, getD, drop-of-length-le, length-drop}
+use lib.Seq.{drop-cons, getD-drop, length-take-le}
+use Rattle.tables.specs.declared.table.Table.{Table}
 use Rattle.tables.specs.Table.{choose}
 use Rattle.models.specs.declared.scan.Step.{Step}
 use Rattle.answers.specs.declared.Refusal.{Refusal}
 use Rattle.models.specs.declared.scan.Line.{Line}
 use Rattle.models.specs.declared.scan.LineRead.{LineRead}
+use Rattle.models.specs.declared.model.Name.{Name}
 use Rattle.models.specs.declared.model.Reading.{Reading}
 use Rattle.models.specs.declared.reader.Progress.{Progress}
+use Rattle.models.specs.Bytes.{bytes}
 use Rattle.models.specs.Model.{nameByte}
-use Rattle.models.specs.Scan.{fits, shift, further, follow, followAt, nameRun, endName, nameStep, nameAt}
-use Rattle.models.specs.Reading.{after, onStep, onLine, refusing, ended, headAt, fenceAt, nameIn, tableIn, started, fenceFrom, linesFrom, reading}
+use Rattle.models.specs.Scan.{fits, shift, further, follow, followAt, nameRun, endName, nameStep, nameAt, tablePattern}
+use Rattle.models.specs.Reading.{after, lineEnd, ppoAt, onStep, onLine, refusing, ended, headAt, fenceAt, nameIn, tableIn, started, repeatOf, withFence, fenceFrom, linesFrom, reading}
+use Rattle.models.proofs.Language.{Reads, found, stuck}
+use Rattle.models.proofs.Pattern.{Follows, length-follows, reads-follow}
 use Rattle.models.proofs.NamePart.{run-within}
 
 shift-further : (here : ℕ) (r : Step) → shift here (further r) ≡ shift (here + 1) r
@@ -135,6 +141,70 @@ line-stuck more e f is = is ∙ ap (λ (s : LineRead). onLine s more) (sym f ∙
 pub line-next : {r st : LineRead} {l : Line} {x : Reading} (more : Line → Reading) → r ≡ st → r ≡ LineRead.Read l → x ≡ more l → x ≡ onLine st more
 line-next more e f is = is ∙ ap (λ (s : LineRead). onLine s more) (sym f ∙ e)
 
+-- where a name ends of which a line was read: so many bytes before its table
+pub record NameEnds (t : List ℕ) (gap : ℕ) (line : Line) : Type 0 where
+  pub above : gap ≤ line .table
+  pub run : line .name + nameRun 16 (drop (line .name) t) ≡ line .table - gap
+  pub within : line .table - gap ≤ length t
+
+name-past : (e : ℕ) (t : List ℕ) (at p : ℕ) → nameAt e t at ≡ Step.Next p → (at + nameRun 16 (drop at t) + 1 ≡ p) × (p ≤ length t)
+name-past e t at p is = by (ℕ-discrete n 0) (decLt (at + n) (length t)) (ℕ-discrete (getD t (at + n) 0) e)
+  where
+    n : ℕ
+    n = nameRun 16 (drop at t)
+
+    not-stuck : {k : ℕ} → nameAt e t at ≡ Step.Stuck k → ⊥
+    not-stuck h = let z : _≡_ {A = ℕ} 0 1 = cc in omega arith
+
+    by : Dec (n ≡ 0) → Dec (at + n < length t) → Dec (getD t (at + n) 0 ≡ e) → (at + n + 1 ≡ p) × (p ≤ length t)
+    by (yes z) l q = absurd (not-stuck (name-none e t at n refl z))
+    by (no some) (no l) q = absurd (not-stuck (name-over e t at n refl some (omega arith)))
+    by (no some) (yes l) (no q) = absurd (not-stuck (name-other e t at n refl some l q))
+    by (no some) (yes l) (yes q) =
+        let ends : nameAt e t at ≡ Step.Next (at + n + 1) = name-ends e t at n refl some l q in
+        let same : at + n + 1 ≡ p = cc in
+        (same, omega arith)
+
+pattern-past : (ps t : List ℕ) (at p : ℕ) → followAt ps t at ≡ Step.Next p → at + length ps ≡ p
+pattern-past ps t at p = by (reads-follow ps (drop at t))
+  where
+    by : {r : Step} → Reads (Follows ps) (drop at t) r → shift at r ≡ Step.Next p → at + length ps ≡ p
+    by (found {n = m} lm f) is =
+        let same : at + m ≡ p = cc in
+        omega (arith, length-take-le m (drop at t) lm, length-follows ps (take m (drop at t)) f)
+    by (stuck h none) is = let z : _≡_ {A = ℕ} 0 1 = cc in absurd (omega arith)
+
+after-read : (st : Step) (more : ℕ → LineRead) (line : Line) → after st more ≡ LineRead.Read line → (n : ℕ) × (st ≡ Step.Next n) × (more n ≡ LineRead.Read line)
+after-read (Step.Next n) more line h = (n, refl, h)
+after-read (Step.Stuck k) more line h = let z : _≡_ {A = ℕ} 0 1 = cc in absurd (omega arith)
+
+module _ (t : List ℕ) (line : Line) where
+  line-is : (name table : ℕ) → lineEnd t name table ≡ LineRead.Read line → (next : ℕ) × (record { name = name; table = table; next = next } ≡ line)
+  line-is name table h =
+      let a = after-read (followAt tablePattern t table) (λ next. LineRead.Read (record { name = name; table = table; next = next })) line h in
+      (a .0, taken (a .2))
+    where
+      taken : {l : Line} → LineRead.Read l ≡ LineRead.Read line → l ≡ line
+      taken e = cc
+
+  pub fence-name : (at : ℕ) → fenceAt t at ≡ LineRead.Read line → NameEnds t 1 line
+  unfolding fenceAt
+  fence-name at h =
+      let a = after-read (followAt (bytes "fence ") t at) (λ name. after (nameAt 32 t name) λ table. lineEnd t name table) line h in
+      let b = after-read (nameAt 32 t (a .0)) (λ table. lineEnd t (a .0) table) line (a .2) in
+      let past = name-past 32 t (a .0) (b .0) (b .1) in
+      subst (NameEnds t 1) (line-is (a .0) (b .0) (b .2) .1) (record { above = omega (arith, past .0); run = omega (arith, past .0); within = omega (arith, past .1) })
+
+  pub head-name : headAt t ≡ LineRead.Read line → NameEnds t 5 line
+  unfolding headAt
+  head-name h =
+      let a = after-read (followAt (bytes "model ") t 0) (λ name. after (nameAt 10 t name) λ past. ppoAt t name past) line h in
+      let b = after-read (nameAt 10 t (a .0)) (λ past. ppoAt t (a .0) past) line (a .2) in
+      let c = after-read (followAt (bytes "ppo ") t (b .0)) (λ table. lineEnd t (a .0) table) line (b .2) in
+      let past = name-past 10 t (a .0) (b .0) (b .1) in
+      let four : b .0 + 4 ≡ c .0 = pattern-past (bytes "ppo ") t (b .0) (c .0) (c .1) in
+      subst (NameEnds t 5) (line-is (a .0) (c .0) (c .2) .1) (record { above = omega (arith, past .0); run = omega (arith, past .0); within = omega (arith, past .1) })
+
 -- one line more, or the last one
 module _ (t : List ℕ) (p : Progress) (here : ℕ) where
   pub lines-last : (left : ℕ) → left ≤ 0 → linesFrom left t p here ≡ ended t p here
@@ -159,6 +229,13 @@ module _ (t : List ℕ) (p : Progress) (here : ℕ) where
       (λ (q : Bool).
       choose q (onLine (fenceAt t here) (λ line. linesFrom n t (fenceFrom t p line) (line .next))) (ended t p here))
       (eq-eqb _ _ h)
+
+-- what is stored of a fence's line
+pub fence-stored : (t : List ℕ) (p : Progress) (line : Line) {name : Name} {table : Table} {place : ℕ} → name ≡ nameIn (drop (line .name) t) → table ≡ tableIn (drop (line .table) t)
+    → place ≡ repeatOf p name (line .name) → record { model = withFence p name (line .name) table .model; repeat = place } ≡ fenceFrom t p line
+fence-stored t p line {name} {table} n b r =
+    ap (λ (k : ℕ). record { model = withFence p name (line .name) table .model; repeat = k }) r
+    ∙ ap₂ (λ (x : Name) (y : Table). withFence p x (line .name) y) n b
 
 pub reading-over : (t : List ℕ) → 1024 < length t → reading t ≡ refusing Refusal.OverLimit
 unfolding reading

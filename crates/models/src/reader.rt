@@ -1,9 +1,11 @@
 // The reader: from a text to a model.
 ghost use mathlib.Core.Path.{_≡_};
-ghost use Prim.Native.Nat.{ℕ, _+_, _≤_, _<_};
+ghost use Prim.Native.Nat.{_+_, _≤_};
+ghost use lib.Dec.{eqb};
 ghost use lib.ListN.{length, take, drop};
-ghost use Rattle.models.specs.Scan.{levelOf};
-ghost use Rattle.models.specs.Reading.{filled, nameIn, tableIn, sameBytes, among, bare, started, repeatOf, withFence, fenceFrom, refusing, finished, ended, linesFrom, reading, Told};
+ghost use Rattle.tables.specs.Table.{choose};
+ghost use Rattle.models.specs.Scan.{levelOf, nameRun};
+ghost use Rattle.models.specs.Reading.{nameIn, tableIn, sameBytes, among, finished, ended, linesFrom, reading, Told};
 use crate::held;
 use crate::model::Model;
 use crate::model::Name;
@@ -60,11 +62,12 @@ fn table_in(text: &[u8]) -> Table
     Table::of_levels(levels)
 }
 
-fn name_in(text: &[u8]) -> Name
-    ensures { λ r. ⌜ r ≡ nameIn (now (text .entry)) ⌝ }
+// The name between two places of the text: a line was read there, so its bytes are not looked at again.
+fn name_in(text: &[u8], from: usize, past: usize) -> Name
+    requires { ⌜ (from + nameRun 16 (drop from (now text)) ≡ past) × (past ≤ length (now text)) ⌝ }
+    ensures { λ r. ⌜ r ≡ nameIn (drop from (now (text .entry))) ⌝ }
 {
-    let n = scan::name_bytes(text, 0);
-    held::first_bytes(&text[..n])
+    held::first_bytes(&text[from..past])
 }
 
 fn same_name(a: Name, b: Name) -> bool
@@ -110,42 +113,18 @@ fn finish(p: Progress) -> Reading
     held::refuse(Refusal::FenceNameRepeats(at))
 }
 
-fn repeat_place(p: Progress, name: Name, at: usize) -> usize
-    requires { ⌜ p .model .fences ≤ 16 ⌝ }
-    ensures { λ r. ⌜ r ≡ repeatOf p name at ⌝ }
+// The place of the first name that stood above already: one was found, or it is the place of this name, or there is none.
+fn repeat_place(found: usize, name: Name, names: [Name; 16], count: usize, at: usize) -> usize
+    requires { ⌜ count ≤ 16 ⌝ }
+    ensures { λ r. ⌜ r ≡ choose (eqb found 0) (choose (among name (take count names)) at 0) found ⌝ }
 {
-    let found = p.repeat;
     if found != 0 {
         return found;
     }
-    let model = p.model;
-    let names = model.names;
-    if is_among(name, names, model.fences) {
+    if is_among(name, names, count) {
         return at;
     }
     0
-}
-
-fn with_fence(p: Progress, name: Name, at: usize, table: Table) -> Progress
-    requires { ⌜ p .model .fences < 16 ⌝ }
-    ensures { λ r. ⌜ r ≡ withFence p name at table ⌝ }
-{
-    let repeat = repeat_place(p, name, at);
-    let mut model = p.model;
-    let k = model.fences;
-    model.tables[k] = table.packed;
-    model.names[k] = name;
-    model.fences = k + 1;
-    Progress { model, repeat }
-}
-
-fn fence_from(text: &[u8], p: Progress, line: Line) -> Progress
-    requires { ⌜ p .model .fences < 16 ⌝ }
-    ensures { λ r. ⌜ r ≡ fenceFrom (now (text .entry)) p line ⌝ }
-{
-    let name = name_in(rest(text, line.name));
-    let table = table_in(rest(text, line.table));
-    with_fence(p, name, line.name, table)
 }
 
 fn end(text: &[u8], p: Progress, at: usize) -> Reading
@@ -162,30 +141,38 @@ fn end(text: &[u8], p: Progress, at: usize) -> Reading
     }
 }
 
-// The fences' lines and the last line.
+// The fences' lines and the last line. The model is filled in place: as a value that goes through functions it would be copied for each fence.
 fn lines(text: &[u8], start: Progress, at: usize) -> Reading
     requires { ⌜ start .model .fences ≡ 0 ⌝ }
     ensures { λ r. ⌜ r ≡ linesFrom 16 (now (text .entry)) start at ⌝ }
 {
-    let mut p = start;
+    let mut model = start.model;
+    let mut repeat = start.repeat;
     let mut here = at;
     let mut left: usize = 16;
     while 0 < left {
         if scan::byte_at(text, here) != b'f' {
-            return end(text, p, here);
+            return end(text, Progress { model, repeat }, here);
         }
         match scan::fence_line(text, here) {
             LineRead::Stuck(at) => {
                 return held::refuse(Refusal::NotOfTheForm(at));
             }
             LineRead::Read(line) => {
-                p = fence_from(text, p, line);
+                // A blank stands between the two.
+                let name = name_in(text, line.name, line.table - 1);
+                let table = table_in(rest(text, line.table));
+                let k = model.fences;
+                repeat = repeat_place(repeat, name, model.names, k, line.name);
+                model.tables[k] = table.packed;
+                model.names[k] = name;
+                model.fences = k + 1;
                 here = line.next;
                 left -= 1;
             }
         }
     }
-    end(text, p, here)
+    end(text, Progress { model, repeat }, here)
 }
 
 // What a text says, or why it is refused.
@@ -199,7 +186,8 @@ pub fn read(text: &[u8]) -> Reading
     match scan::head_line(text) {
         LineRead::Stuck(at) => held::refuse(Refusal::NotOfTheForm(at)),
         LineRead::Read(line) => {
-            let name = name_in(rest(text, line.name));
+            // A line feed and `ppo ` stand between the two.
+            let name = name_in(text, line.name, line.table - 5);
             let ppo = table_in(rest(text, line.table));
             let model = held::bare_model(name, ppo);
             lines(text, Progress { model, repeat: 0 }, line.next)

@@ -98,7 +98,7 @@ pub fn follow(text: &[u8], at: usize, pattern: &[u8]) -> Step
 }
 
 // How many name bytes stand at a place, counted up to 16.
-pub fn name_bytes(text: &[u8], at: usize) -> usize
+fn name_bytes(text: &[u8], at: usize) -> usize
     ensures { λ r. ⌜ r ≡ nameRun 16 (drop at (now (text .entry))) ⌝ }
 {
     let mut here = at;
@@ -117,7 +117,7 @@ pub fn name_bytes(text: &[u8], at: usize) -> usize
 }
 
 // A name and the byte after it.
-pub fn name(text: &[u8], at: usize, end: u8) -> Step
+fn name(text: &[u8], at: usize, end: u8) -> Step
     ensures { λ r. ⌜ r ≡ nameAt end (now (text .entry)) at ⌝ }
 {
     let n = name_bytes(text, at);

@@ -5,7 +5,7 @@ use lib.ListN.{drop}
 use Rattle.models.specs.declared.model.Model.{Model}
 use Rattle.models.specs.Reading.{nameIn, tableIn, bare, linesFrom}
 use Rattle.models.proofs.Words.{meets}
-use Rattle.models.proofs.Steps.{line-stuck, line-next, reading-over, reading-within, afterHead}
+use Rattle.models.proofs.Steps.{line-stuck, line-next, reading-over, reading-within, afterHead, head-name}
 use borrow.Author.Needs.{needs}
 use Rattle.models.proofs.reader.read.Statement.{statement}
 use Rattle.models.proofs.reader.read.Tie as tie
@@ -28,14 +28,16 @@ refuse-requires-2 c κs = search needs
 enum-known-line : tie.Need-enum-known-line
 enum-known-line c = search needs
 
-rest-requires : tie.Need-rest-requires
-rest-requires c κs = search needs
+sub-name-in : tie.Need-sub-name-in
+sub-name-in c = (head-name (now (c .before .before .before .before .before .before .before .args .text)) (c .before .before .line .given .0 .0) (sym (c .before .before .before .before .head-line .ensures) ∙ c .before .before .line .given .1)) .above
 
 name-in-requires : tie.Need-name-in-requires
-name-in-requires c κs = search needs
+name-in-requires c κs =
+    let e = head-name (now (c .before .before .before .before .before .before .before .args .text)) (c .before .before .line .given .0 .0) (sym (c .before .before .before .before .head-line .ensures) ∙ c .before .before .line .given .1) in
+    (e .run, e .within)
 
-rest-requires-2 : tie.Need-rest-requires-2
-rest-requires-2 c κs = search needs
+rest-requires : tie.Need-rest-requires
+rest-requires c κs = search needs
 
 table-in-requires : tie.Need-table-in-requires
 table-in-requires c κs = search needs
@@ -55,8 +57,8 @@ returns-3 : tie.Need-returns-3
 returns-3 c =
     let t = now (c .before .before .before .before .before .before .before .before .before .before .before .before .args .text) in
     let line = c .before .before .before .before .before .before .before .line .given .0 .0 in
-    let name : c .before .before .before .before .name-in .result ≡ nameIn (drop (line .name) t) = c .before .before .before .before .name-in .ensures ∙ ap nameIn (c .before .before .before .before .before .rest .ensures) in
-    let ppo : c .before .before .table-in .result ≡ tableIn (drop (line .table) t) = c .before .before .table-in .ensures ∙ ap tableIn (c .before .before .before .rest2 .ensures) in
+    let name : c .before .before .before .before .name-in .result ≡ nameIn (drop (line .name) t) = c .before .before .before .before .name-in .ensures in
+    let ppo : c .before .before .table-in .result ≡ tableIn (drop (line .table) t) = c .before .before .table-in .ensures ∙ ap tableIn (c .before .before .before .rest .ensures) in
     let is : c .lines .result ≡ afterHead t line =
     c .lines .ensures
     ∙ ap (λ (m : Model). linesFrom 16 t (record { model = m; repeat = 0 }) (line .next)) (c .before .bare-model .ensures ∙ ap₂ bare name ppo) in
@@ -72,9 +74,9 @@ read-spec =
     enum-known-at
     refuse-requires-2
     enum-known-line
-    rest-requires
+    sub-name-in
     name-in-requires
-    rest-requires-2
+    rest-requires
     table-in-requires
     bare-model-requires
     lines-requires
