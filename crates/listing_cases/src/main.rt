@@ -1,100 +1,46 @@
-// Inputs worth showing. What they must print is asked of the independent model by `tools/expect-listing-cases`.
-ghost use Prim.Native.Nat.{_<_, _≤_};
-ghost use lib.ListN.{length};
+// Inputs worth showing, each behind a line that says what it is for. They stand on standard input: behind a heading, three fields for each, with a
+// bar behind each field. The cases and the stored output come from `tools/expect-listing-cases`, which asks the model in `host/model`.
+use cases::fields::field;
+use cases::fields::number;
 
-// An input of so many bytes that begins with the text and is filled up by a stream of loads.
-fn show_filled(text: &[u8], n: usize)
-    requires { ⌜ (length (now text) < n) × (n ≤ 32769) ⌝ }
-{
+// An input of so many bytes that begins with the text, is filled up by loads, and ends in a line feed.
+fn show_filled(text: &[u8], size: u64) {
     let mut input = [b'l'; 32769];
-    bytes::copy(text, &mut input);
-    input[n - 1] = b'\n';
-    show::show(&input[..n]);
+    let n = cases::at_most(size as usize, &input);
+    let begun = cases::at_most(n, text);
+    bytes::copy(&text[..begun], &mut input);
+    if 0 < n {
+        input[n - 1] = b'\n';
+        show::show(cases::front(&input, n));
+    }
 }
 
-// Such an input, and one that has an operation more.
-fn show_limit(text: &[u8], n: usize)
-    requires { ⌜ (length (now text) < n) × (n < 32769) ⌝ }
-{
-    show_filled(text, n);
-    show_filled(text, n + 1);
+// The fields: the case, the size that the input is filled up to, or 0, and the text that it begins with.
+fn show_case(fields: &[u8]) {
+    io::write_all(1, field(fields, 0));
+    io::write_all(1, b":\n");
+    let size = number(field(fields, 1));
+    if size == 0 {
+        show::show(field(fields, 2));
+        return;
+    }
+    show_filled(field(fields, 2), size);
+}
+
+fn show_cases(input: &[u8]) {
+    let mut k = 1;
+    while k < input.len() {
+        let fields = cases::fields::rest(input, k);
+        if fields.len() == 0 {
+            return;
+        }
+        show_case(fields);
+        k += 3;
+    }
 }
 
 fn main() {
-    // An empty stream: nothing after `out `.
-    show::show(
-        b"model TSO\nppo SSSS SSSS SSSS -SMS\nfence mfence SSSS SSSS SSSS SSSS\nend\nmodel ARM\nppo ---- ---- ---- ----\nfence dmb SSSS SSSS SSSS SSSS\nend\nway full\nrun \n",
-    );
-    // A step that is refused.
-    show::show(
-        b"model SC\nppo SSSS SSSS SSSS SSSS\nend\nmodel bare\nppo ---- ---- ---- ----\nend\nway sparing\nrun l\n",
-    );
-    // Fences 10 to 15 as operations and as fence bytes.
-    show::show(
-        b"model many\nppo ---- ---- SSSS S-S-\nfence u0 ---- ---- ---- ----\nfence u1 ---- ---- ---- ----\nfence u2 ---- ---- ---- ----\nfence u3 ---- ---- ---- ----\nfence u4 ---- ---- ---- ----\nfence u5 ---- ---- ---- ----\nfence u6 ---- ---- ---- ----\nfence u7 ---- ---- ---- ----\nfence u8 ---- ---- ---- ----\nfence u9 ---- ---- ---- ----\nfence u10 ---- ---- ---- ----\nfence u11 ---- ---- ---- ----\nfence u12 ---- ---- ---- ----\nfence u13 ---- ---- ---- ----\nfence u14 ---- ---- ---- ----\nfence u15 ---- ---- ---- ----\nend\nmodel wide\nppo ---- ---- ---- ----\nfence t0 ---- ---- ---- ----\nfence t1 ---- ---- ---- ----\nfence t2 ---- ---- ---- ----\nfence t3 ---- ---- ---- ----\nfence t4 ---- ---- ---- ----\nfence t5 ---- ---- ---- ----\nfence t6 ---- ---- ---- ----\nfence t7 ---- ---- ---- ----\nfence t8 ---- ---- ---- ----\nfence t9 ---- ---- ---- ----\nfence t10 ---- ---- S--- ----\nfence t11 ---- ---- -S-- ----\nfence t12 ---- ---- --S- ----\nfence t13 ---- ---- ---S ----\nfence t14 ---- ---- ---- S---\nfence t15 ---- ---- ---- --S-\nend\nway sparing\nrun lF\n",
-    );
-    // 1: a model text of more than 1,024 bytes.
-    show::show(
-        b"model TSO\nppo SSSS SSSS SSSS -SMS\nfence mfence SSSS SSSS SSSS SSSS\nfence f000000000000000 ---- ---- ---- ----\nfence f000000000000001 ---- ---- ---- ----\nfence f000000000000002 ---- ---- ---- ----\nfence f000000000000003 ---- ---- ---- ----\nfence f000000000000004 ---- ---- ---- ----\nfence f000000000000005 ---- ---- ---- ----\nfence f000000000000006 ---- ---- ---- ----\nfence f000000000000007 ---- ---- ---- ----\nfence f000000000000008 ---- ---- ---- ----\nfence f000000000000009 ---- ---- ---- ----\nfence f000000000000010 ---- ---- ---- ----\nfence f000000000000011 ---- ---- ---- ----\nfence f000000000000012 ---- ---- ---- ----\nfence f000000000000013 ---- ---- ---- ----\nfence f000000000000014 ---- ---- ---- ----\nfence f000000000000015 ---- ---- ---- ----\nfence f000000000000016 ---- ---- ---- ----\nfence f000000000000017 ---- ---- ---- ----\nfence f000000000000018 ---- ---- ---- ----\nfence f000000000000019 ---- ---- ---- ----\nfence f000000000000020 ---- ---- ---- ----\nfence f000000000000021 ---- ---- ---- ----\nfence f000000000000022 ---- ---- ---- ----\nfence f000000000000023 ---- ---- ---- ----\nfence f000000000000024 ---- ---- ---- ----\nfence f000000000000025 ---- ---- ---- ----\nfence f000000000000026 ---- ---- ---- ----\nfence f000000000000027 ---- ---- ---- ----\nfence f000000000000028 ---- ---- ---- ----\nfence f000000000000029 ---- ---- ---- ----\nend\nmodel ARM\nppo ---- ---- ---- ----\nfence dmb SSSS SSSS SSSS SSSS\nend\nway full\nrun l\n",
-    );
-    // 2: not of the shape, by a way, by what follows, by a missing line feed, by a third text.
-    show::show(
-        b"model TSO\nppo SSSS SSSS SSSS -SMS\nfence mfence SSSS SSSS SSSS SSSS\nend\nmodel ARM\nppo ---- ---- ---- ----\nfence dmb SSSS SSSS SSSS SSSS\nend\nway fast\nrun l\n",
-    );
-    show::show(
-        b"model TSO\nppo SSSS SSSS SSSS -SMS\nfence mfence SSSS SSSS SSSS SSSS\nend\nmodel ARM\nppo ---- ---- ---- ----\nfence dmb SSSS SSSS SSSS SSSS\nend\nway full\nrun l\n\n",
-    );
-    show::show(
-        b"model TSO\nppo SSSS SSSS SSSS -SMS\nfence mfence SSSS SSSS SSSS SSSS\nend\nmodel ARM\nppo ---- ---- ---- ----\nfence dmb SSSS SSSS SSSS SSSS\nend\nway full\nrun l",
-    );
-    show::show(
-        b"model TSO\nppo SSSS SSSS SSSS -SMS\nfence mfence SSSS SSSS SSSS SSSS\nend\nmodel ARM\nppo ---- ---- ---- ----\nfence dmb SSSS SSSS SSSS SSSS\nend\nmodel ARM\nppo ---- ---- ---- ----\nfence dmb SSSS SSSS SSSS SSSS\nend\nway full\nrun l\n",
-    );
-    show::show(
-        b"model TSO\nppo SSSS SSSS SSSS -SMS\nfence mfence SSSS SSSS SSSS SSSS\nend\nmodel ARM\nppo ---- ---- ---- ----\nfence dmb SSSS SSSS SSSS SSSS\nend\nway full\nrun\n",
-    );
-    show::show(b"");
-    // 2: a text that is not of the form; the target's place counts from its own start.
-    show::show(b"end\nend\nway full\nrun \n");
-    show::show(
-        b"model TSO\nppo SSSS SSSS SSSS -SMS\nfence mfence SSSS SSSS SSSS SSSS\nend\nmodel ARM\nppo ---- ---- ---- ----\nfence d-b SSSS SSSS SSSS SSSS\nend\nway full\nrun l\n",
-    );
-    // 3: a fence name that repeats; the upstream's comes before the target's.
-    show::show(
-        b"model TSO\nppo SSSS SSSS SSSS -SMS\nfence mfence SSSS SSSS SSSS SSSS\nend\nmodel two\nppo ---- ---- ---- ----\nfence a ---- ---- ---- ----\nfence a ---- ---- ---- ----\nend\nway full\nrun l\n",
-    );
-    show::show(
-        b"model two\nppo ---- ---- ---- ----\nfence a ---- ---- ---- ----\nfence a ---- ---- ---- ----\nend\nend\nway full\nrun l\n",
-    );
-    // 4, 5 and 6, the earliest; and before 8, since the stream is judged before the machine is made.
-    show::show(
-        b"model TSO\nppo SSSS SSSS SSSS -SMS\nfence mfence SSSS SSSS SSSS SSSS\nend\nmodel ARM\nppo ---- ---- ---- ----\nfence dmb SSSS SSSS SSSS SSSS\nend\nway full\nrun lx\n",
-    );
-    show::show(
-        b"model TSO\nppo SSSS SSSS SSSS -SMS\nfence mfence SSSS SSSS SSSS SSSS\nend\nmodel ARM\nppo ---- ---- ---- ----\nfence dmb SSSS SSSS SSSS SSSS\nend\nway full\nrun ss1\n",
-    );
-    show::show(
-        b"model SC\nppo SSSS SSSS SSSS SSSS\nend\nmodel bare\nppo ---- ---- ---- ----\nend\nway full\nrun llx\n",
-    );
-    show::show(
-        b"model A4097\nppo ---- ---- ---- ----\nfence f0 S--- ---- ---- ----\nfence f1 -S-- ---- ---- ----\nfence f2 --S- ---- ---- ----\nfence f3 ---S ---- ---- ----\nfence f4 ---- N--- ---- ----\nfence f5 ---- M--- ---- ----\nfence f6 ---- S--- ---- ----\nfence f7 ---- -N-- ---- ----\nfence f8 ---- -M-- ---- ----\nfence f9 ---- -S-- ---- ----\nfence f10 ---- --M- ---- ----\nfence f11 ---- --S- ---- ----\nfence f12 ---- ---N ---- ----\nfence f13 ---- ---M ---- ----\nfence f14 ---- ---S ---- ----\nfence f15 ---- --NN ---- ----\nend\nmodel PART\nppo ---- ---- SSSS SSSS\nfence full SSSS SSSS SSSS SSSS\nend\nway sparing\nrun x\n",
-    );
-    // 8.
-    show::show(
-        b"model A4097\nppo ---- ---- ---- ----\nfence f0 S--- ---- ---- ----\nfence f1 -S-- ---- ---- ----\nfence f2 --S- ---- ---- ----\nfence f3 ---S ---- ---- ----\nfence f4 ---- N--- ---- ----\nfence f5 ---- M--- ---- ----\nfence f6 ---- S--- ---- ----\nfence f7 ---- -N-- ---- ----\nfence f8 ---- -M-- ---- ----\nfence f9 ---- -S-- ---- ----\nfence f10 ---- --M- ---- ----\nfence f11 ---- --S- ---- ----\nfence f12 ---- ---N ---- ----\nfence f13 ---- ---M ---- ----\nfence f14 ---- ---S ---- ----\nfence f15 ---- --NN ---- ----\nend\nmodel PART\nppo ---- ---- SSSS SSSS\nfence full SSSS SSSS SSSS SSSS\nend\nway sparing\nrun l\n",
-    );
-    // 9.
-    show::show(
-        b"model U\nppo ---- ---- ---- ----\nfence f0 --MM M--- ---- S---\nfence f1 M-MS S--- --SS S-MM\nfence f2 --N- ---- ---M -N--\nend\nmodel T\nppo -N-- --MM NMMN NN--\nfence g0 SSNS NSSN NNNM N--N\nfence g1 S-M- N-SN -MSS SSSS\nfence g2 S-N- MNSS N-SS -M-N\nfence g3 -SS- M-SN SS-N MSSN\nfence full SSSS SSSS SSSS SSSS\nend\nway sparing\nrun l\n",
-    );
-    // A stream of 4,096 operations, whose output is the longest that there is, and one of 4,097: before it stand 152 bytes.
-    show_limit(
-        b"model TSO\nppo SSSS SSSS SSSS -SMS\nfence mfence SSSS SSSS SSSS SSSS\nend\nmodel ARM\nppo ---- ---- ---- ----\nfence dmb SSSS SSSS SSSS SSSS\nend\nway full\nrun ",
-        4249,
-    );
-    // 32,768 bytes and one more, of an input that is else refused by 3: its upstream repeats a fence name.
-    show_limit(
-        b"model two\nppo ---- ---- ---- ----\nfence a ---- ---- ---- ----\nfence a ---- ---- ---- ----\nend\nmodel ARM\nppo ---- ---- ---- ----\nfence dmb SSSS SSSS SSSS SSSS\nend\nway full\nrun ",
-        32768,
-    );
+    let mut input = io::large_buffer();
+    let n = io::read_full(0, &mut input);
+    show_cases(&input[..n]);
 }
