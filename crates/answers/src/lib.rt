@@ -60,6 +60,12 @@ impl Refusal {
     }
 }
 
+// What is said of a text or an image that is read: accepted, or refused.
+pub enum Verdict {
+    Accepted,
+    Refused(Refusal),
+}
+
 // What a call that writes answers. A call without fences or an end state gives 0 there.
 pub enum Answer {
     Done {

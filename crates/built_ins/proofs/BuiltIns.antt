@@ -1,18 +1,17 @@
 -- The rule of the built-in table, by one computed test over all of it. Assumes nothing.
-use Prim.Native.Nat.{ℕ, zero, suc, _+_, _*_, _-_, _%_, _≤_, _<_}
+use Prim.Native.Nat.{ℕ, zero, suc, _+_, _*_, _-_, _%_, _<_}
 use mathlib.Core.Path.{_≡_, refl, sym, ap, _∙_}
 use mathlib.Core.List.{List, [], _∷_, _++_, map, append-nil}
-use mathlib.Core.Bool.{Bool}
+use mathlib.Core.Bool.{Bool, cond}
 use native.Mathlib.Omega.{arith}
-use borrow.Author.Tests.{lt-ltb, le-ltb}
 use native.Mathlib.Nat.{le-of-suc-le-suc}
+use borrow.Author.Tests.{lt-ltb, le-ltb}
 use lib.ListN.{length, getD, set, take, drop, replicate, length-drop, List·getD-map}
 use lib.Seq.{take-all, length-take-le}
-use Rattle.tables.specs.Table.{choose, table}
 use Rattle.answers.specs.declared.Refusal.{Refusal}
+use Rattle.tables.specs.Table.{table}
 use Rattle.models.specs.declared.model.Name.{Name}
 use Rattle.models.specs.declared.model.Model.{Model}
-use Rattle.models.specs.Model.{Description}
 use Rattle.models.specs.Reading.{filled, bare, held, tableIn, accepting, refusing}
 use Rattle.built_ins.specs.Numbers.{number, nameBytes, modelNumbers, nameFrom, modelFrom}
 use Rattle.built_ins.specs.BuiltIns.{rows, under, none, model, builtIns, builtIn, builtInReading}
@@ -74,8 +73,8 @@ module _ (n : ℕ) (m : Model) (first second third : Name) where
 -- what a number is answered
 pub answered : (n : ℕ) (m : Model) → n < 16 → m ≡ modelFrom n → accepting m ≡ builtInReading n
 unfolding builtInReading
-answered n m l e = ap accepting (e ∙ row-is n l) ∙ sym (ap (λ (q : Bool). choose q (refusing Refusal.OutOfRange) (accepting (held (builtIn n)))) (le-ltb 15 n (omega arith)))
+answered n m l e = ap accepting (e ∙ row-is n l) ∙ sym (ap (λ (q : Bool). cond q (refusing Refusal.OutOfRange) (accepting (held (builtIn n)))) (le-ltb 15 n (omega arith)))
 
 pub out-of-range : (n : ℕ) → 15 < n → refusing Refusal.OutOfRange ≡ builtInReading n
 unfolding builtInReading
-out-of-range n l = sym (ap (λ (q : Bool). choose q (refusing Refusal.OutOfRange) (accepting (held (builtIn n)))) (lt-ltb 15 n l))
+out-of-range n l = sym (ap (λ (q : Bool). cond q (refusing Refusal.OutOfRange) (accepting (held (builtIn n)))) (lt-ltb 15 n l))

@@ -5,9 +5,9 @@ use mathlib.Core.List.{List, [], map}
 use native.Mathlib.Omega.{arith}
 use native.Mathlib.Decide.{decLt}
 use lib.ListN.{getD, List·getD-map}
-use Rattle.tables.specs.Table.{table}
 use Rattle.answers.specs.declared.Refusal.{Refusal}
-use Rattle.models.specs.declared.model.Verdict.{Verdict}
+use Rattle.answers.specs.declared.Verdict.{Verdict}
+use Rattle.tables.specs.Table.{table}
 use Rattle.models.specs.declared.model.Reading.{Reading}
 use Rattle.models.specs.Model.{Description}
 use Rattle.models.specs.Text.{textOf}

@@ -1,16 +1,16 @@
 -- Document 01: "The sixteen built-in models, numbered 0 to 15, are from document 002, A.2 and A.3. Rows cld and cst are SSSS unless given.
 -- "Full" is S throughout." "Targets 9 to 13 have the ppo of TSO, PLO, PSO, LSO, RMO and the fences msfence, mlfence, mfence (full)". "14 is
 -- POWER as 7, 15 is ARM as 8." Refusal 12: "a .. built-in number is out of range".
-use Prim.Native.Nat.{ℕ, _<_}
+use Prim.Native.Nat.{ℕ}
 use Prim.Native.String.{String}
+use mathlib.Core.Bool.{cond}
 use mathlib.Core.List.{List, [], _∷_, _++_}
 use lib.Dec.{ltb}
 use lib.ListN.{getD}
-use Rattle.tables.specs.declared.table.Table.{Table}
-use Rattle.tables.specs.Table.{choose}
+use Rattle.ground.specs.Bytes.{bytes}
 use Rattle.answers.specs.declared.Refusal.{Refusal}
+use Rattle.tables.specs.declared.table.Table.{Table}
 use Rattle.models.specs.declared.model.Reading.{Reading}
-use Rattle.models.specs.Bytes.{bytes}
 use Rattle.models.specs.Model.{Fence, Description}
 use Rattle.models.specs.Reading.{tableIn, held, accepting, refusing}
 
@@ -67,4 +67,4 @@ unfoldable pub builtIn : ℕ → Description
 builtIn n = getD builtIns n (model "" none [])
 
 unfoldable pub builtInReading : ℕ → Reading
-builtInReading n = choose (ltb 15 n) (refusing Refusal.OutOfRange) (accepting (held (builtIn n)))
+builtInReading n = cond (ltb 15 n) (refusing Refusal.OutOfRange) (accepting (held (builtIn n)))

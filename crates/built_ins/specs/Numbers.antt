@@ -1,7 +1,7 @@
 -- The constant tables of the built-in models, as src/numbers.rt has them, and the model that a row of them holds. That each row holds the
 -- model of document 01 is one computed test (proofs/BuiltIns).
 use Prim.Native.Nat.{ℕ, _+_, _*_, _%_}
-use mathlib.Core.List.{List, [], _∷_, _++_}
+use mathlib.Core.List.{List, [], _∷_}
 use lib.ListN.{getD, take, drop, replicate}
 use Rattle.models.specs.declared.model.Name.{Name}
 use Rattle.models.specs.declared.model.Model.{Model}

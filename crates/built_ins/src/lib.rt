@@ -7,9 +7,9 @@ ghost use Rattle.writing.specs.Calls.{answerAfter, bufferAfter};
 ghost use Rattle.built_ins.specs.BuiltIns.{builtIn, builtInReading};
 use answers::Answer;
 use answers::Refusal;
+use answers::Verdict;
 use models::held;
 use models::model::Reading;
-use models::model::Verdict;
 
 // The built-in model of a number.
 pub fn built_in(number: u64) -> Reading

@@ -1,6 +1,6 @@
 // Cases that stand on standard input, as fields with a bar behind each.
-ghost use mathlib.Core.Path.{_≡_};
 ghost use Prim.Native.Nat.{_≤_};
+ghost use mathlib.Core.Path.{_≡_};
 ghost use lib.ListN.{length, drop};
 ghost use Rattle.cases.specs.Fields.{ahead, behind, from, numberIn, withDigit};
 

@@ -1,7 +1,7 @@
 // What the programs that run the calls on cases share: reading the cases, and printing what a call answered and left in its buffer.
+ghost use Prim.Native.Nat.{min};
 ghost use mathlib.Core.Path.{_≡_};
 ghost use lib.ListN.{length, getD, take, drop};
-ghost use Prim.Native.Nat.{min};
 ghost use Rattle.answers.specs.Answer.{numbersOf};
 ghost use Rattle.io.specs.Counts.{Counts};
 ghost use Rattle.cases.specs.Buffer.{filled, Repeats};

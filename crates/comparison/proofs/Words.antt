@@ -1,7 +1,7 @@
 -- Comparing two tables finds what 01's words say, and nothing else does. Assumes nothing.
-use Prim.Native.Nat.{ℕ, _≤_, _<_}
-use mathlib.Core.Path.{_≡_, refl, sym, ap, ap₂, _∙_, subst}
-use mathlib.Core.Bool.{Bool, true, false, true≢false}
+use Prim.Native.Nat.{_≤_}
+use mathlib.Core.Path.{_≡_, refl, sym, ap₂, _∙_, subst}
+use mathlib.Core.Bool.{Bool, true, false, true≢false, cond}
 use mathlib.Core.Logic.{_⊎_, inl, inr}
 use native.Mathlib.Omega.{arith}
 use native.Mathlib.Nat.{le-antisymm}
@@ -9,10 +9,10 @@ use native.Mathlib.Decide.{decLe}
 use Rattle.tables.specs.declared.table.Table.{Table}
 use Rattle.tables.specs.declared.table.Row.{Row}
 use Rattle.tables.specs.declared.table.Column.{Column}
-use Rattle.tables.specs.Table.{cell, choose, atLeast}
+use Rattle.tables.specs.Table.{cell, atLeast}
 use Rattle.tables.proofs.Laws.{at-least-cells, cells-at-least}
 use Rattle.comparison.specs.declared.Comparison.{Comparison}
-use Rattle.comparison.specs.Comparison.{Same, NoneLower, SomeHigher, Stronger, Compares, equal, first, second, neither, comparison}
+use Rattle.comparison.specs.Comparison.{NoneLower, SomeHigher, Compares, equal, first, second, neither, comparison}
 
 -- every cell of the first is at most that of the second, or one is higher: column by column, row by row
 module _ (P : Column → Type 0) (Q : Type 0) where
@@ -79,7 +79,7 @@ unfolding comparison
 compares a b = by (atLeast a b) (atLeast b a) refl refl
   where
     by : (x y : Bool) → atLeast a b ≡ x → atLeast b a ≡ y
-        → Compares a b (choose x (choose y Comparison.Equal Comparison.FirstStronger) (choose y Comparison.SecondStronger Comparison.Neither))
+        → Compares a b (cond x (cond y Comparison.Equal Comparison.FirstStronger) (cond y Comparison.SecondStronger Comparison.Neither))
     by true true p q = equal (λ r c. le-antisymm (at-least-cells b a q r c) (at-least-cells a b p r c))
     by true false p q = first (at-least-cells a b p, some-higher a b q)
     by false true p q = second (at-least-cells b a q, some-higher b a p)
@@ -87,10 +87,10 @@ compares a b = by (atLeast a b) (atLeast b a) refl refl
         neither (λ s. low a b p (λ r c. omega (arith, s r c))) (λ s. low a b p (s .0)) (λ s. low b a q (s .0))
 
 found-by : (a b : Table) (x y : Bool) → atLeast a b ≡ x → atLeast b a ≡ y
-    → comparison a b ≡ choose x (choose y Comparison.Equal Comparison.FirstStronger) (choose y Comparison.SecondStronger Comparison.Neither)
+    → comparison a b ≡ cond x (cond y Comparison.Equal Comparison.FirstStronger) (cond y Comparison.SecondStronger Comparison.Neither)
 unfolding comparison
 found-by a b x y p q =
-    ap₂ (λ (v w : Bool). choose v (choose w Comparison.Equal Comparison.FirstStronger) (choose w Comparison.SecondStronger Comparison.Neither)) p q
+    ap₂ (λ (v w : Bool). cond v (cond w Comparison.Equal Comparison.FirstStronger) (cond w Comparison.SecondStronger Comparison.Neither)) p q
 
 pub compares-is : {a b : Table} {x : Comparison} → Compares a b x → x ≡ comparison a b
 compares-is {a} {b} (equal s) = sym (found-by a b true true (cells-at-least a b (λ r c. omega (arith, s r c))) (cells-at-least b a (λ r c. omega (arith, s r c))))
@@ -109,7 +109,7 @@ compares-one p q = compares-is p ∙ sym (compares-is q)
 
 -- an answer reached by the two tests
 pub decided : (a b : Table) {r : Comparison} (x y : Bool) → atLeast a b ≡ x → atLeast b a ≡ y
-    → r ≡ choose x (choose y Comparison.Equal Comparison.FirstStronger) (choose y Comparison.SecondStronger Comparison.Neither)
+    → r ≡ cond x (cond y Comparison.Equal Comparison.FirstStronger) (cond y Comparison.SecondStronger Comparison.Neither)
     → (r ≡ comparison a b) × Compares a b r
 decided a b x y p q is =
     let e = is ∙ sym (found-by a b x y p q) in

@@ -2,12 +2,13 @@
 -- some cell higher."
 use Prim.Native.Nat.{ℕ, _≤_, _<_}
 use mathlib.Core.Path.{_≡_}
+use mathlib.Core.Bool.{cond}
 use mathlib.Core.List.{List}
+use Rattle.answers.specs.declared.Verdict.{Verdict}
 use Rattle.tables.specs.declared.table.Table.{Table}
 use Rattle.tables.specs.declared.table.Row.{Row}
 use Rattle.tables.specs.declared.table.Column.{Column}
-use Rattle.tables.specs.Table.{cell, choose, atLeast}
-use Rattle.models.specs.declared.model.Verdict.{Verdict}
+use Rattle.tables.specs.Table.{cell, atLeast}
 use Rattle.models.specs.declared.model.Reading.{Reading}
 use Rattle.comparison.specs.declared.Comparison.{Comparison}
 use Rattle.comparison.specs.declared.Compared.{Compared}
@@ -43,8 +44,8 @@ numberOf Comparison.Neither = 3
 -- the same as a function
 unfoldable pub comparison : Table → Table → Comparison
 comparison a b =
-    choose (atLeast a b) (choose (atLeast b a) Comparison.Equal Comparison.FirstStronger)
-    (choose (atLeast b a) Comparison.SecondStronger Comparison.Neither)
+    cond (atLeast a b) (cond (atLeast b a) Comparison.Equal Comparison.FirstStronger)
+    (cond (atLeast b a) Comparison.SecondStronger Comparison.Neither)
 
 -- the refusals of the first text, then of the second, then the comparison
 abbrev pub comparedBoth : Table → Verdict → Table → Compared

@@ -2,8 +2,8 @@
 ghost use mathlib.Core.Path.{_≡_};
 ghost use Rattle.comparison.specs.Comparison.{numberOf, comparison, Compares, comparing, comparedBoth};
 use answers::Refusal;
+use answers::Verdict;
 use models::model::Reading;
-use models::model::Verdict;
 use tables::table::Table;
 
 pub enum Comparison {

@@ -1,61 +1,36 @@
 -- What is made of two models that were read is a machine of the layout. Assumes nothing.
-use Prim.Native.Nat.{ℕ, _+_, _-_, _*_, _/_, _%_, _≤_, _<_}
-use mathlib.Core.Path.{_≡_, refl, sym, ap, subst, _∙_}
-use mathlib.Core.Bool.{Bool, true, false, _&&_, _||_}
-use mathlib.Core.Logic.{_⊎_, inl, inr}
+use Prim.Native.Nat.{ℕ, _+_, _-_, _/_, _%_, _≤_, _<_}
+use mathlib.Core.Path.{_≡_, sym, ap, subst, _∙_}
+use mathlib.Core.Logic.{inl, inr}
 use mathlib.Core.List.{List, _++_}
 use native.Mathlib.Omega.{arith}
-use lib.Dec.{T, leb, eqb}
-use lib.ListN.{length, take, getD, replicate, length-append, length-replicate, getD-replicate, List·getD-append}
+use lib.Dec.{T}
+use lib.ListN.{length, getD, replicate, length-append, length-replicate, getD-replicate, List·getD-append}
 use lib.Seq.{take-all, length-take-le, getD-append-add}
-use Rattle.tables.specs.Table.{choose}
+use Rattle.ground.proofs.Truths.{differ, is-true}
+use Rattle.ground.specs.Bytes.{at, nameByte}
+use Rattle.answers.specs.declared.Verdict.{Verdict}
 use Rattle.rule.specs.declared.way.Way.{Way}
 use Rattle.rule.specs.Rule.{wayNumber}
 use Rattle.rule.specs.Pairs as rule
 use Rattle.rule.specs.Situation.{asks}
-use Rattle.rule.proofs.Choices.{differ}
 use Rattle.models.specs.declared.model.Model.{Model}
 use Rattle.models.specs.declared.model.Name.{Name}
-use Rattle.models.specs.declared.model.Verdict.{Verdict}
 use Rattle.models.specs.declared.model.Reading.{Reading}
-use Rattle.models.specs.Model as model
-use Rattle.models.specs.Model.{between, NameFormed}
+use Rattle.models.specs.Model.{NameFormed}
 use Rattle.models.specs.Reading.{Told, over, departs, repeated, accepted}
 use Rattle.models.proofs.NamePart.{each-at}
 use Rattle.runs.specs.Call.{modelOf, Whole}
-use Rattle.mealy.specs.Runs.{Answer, taken}
+use Rattle.mealy.specs.Runs.{taken}
 use Rattle.mealy.specs.Arrivals.{arrival}
 use Rattle.mealy.proofs.Runs.{untaken, same-refl}
 use Rattle.machine.specs.declared.machine.Machine.{Machine}
 use Rattle.machine.specs.Shim.{shim}
 use Rattle.machine.specs.Rows.{decoded}
 use Rattle.machine.specs.Generated.{Canonical as Word, refusing, passing, Making, named}
-use Rattle.layout.specs.Layout.{at}
-use Rattle.layout.specs.Barred.{nameByte}
 use Rattle.image.specs.Image.{word, NameField, AccessWord, Canonical}
 use Rattle.generation.specs.Generating.{headerFor}
 use Rattle.generation.proofs.Standing.{decoded-taken, fence-step, first-stands, Alike, halt, lead, alike}
-
--- the bytes of a name, by the models' words and by the layout's
-four : (a b c d : Bool) → (a || b || c || d) ≡ choose a true (choose b true (choose c true d))
-four true b c d = refl
-four false true c d = refl
-four false false true d = refl
-four false false false d = refl
-
-two : (a b : Bool) → (a && b) ≡ choose a b false
-two true b = refl
-two false b = refl
-
-same-byte : (b : ℕ) → model.nameByte b ≡ nameByte b
-unfolding nameByte
-same-byte b =
-    four (between 48 57 b) (between 65 90 b) (between 97 122 b) (eqb b 95)
-    ∙ rw (two (leb 48 b) (leb b 57), two (leb 65 b) (leb b 90), two (leb 97 b) (leb b 122))
-
-is-so : (b : Bool) → T b → b ≡ true
-is-so true h = refl
-is-so false h = absurd h
 
 name-field : (n : List ℕ) → NameFormed n → NameField (n ++ replicate (16 - length n) 0)
 name-field n f =
@@ -66,8 +41,7 @@ name-field n f =
       few = f .few;
       bytes = λ k l.
           ap nameByte (List·getD-append n (replicate (16 - length n) 0) 0 k l)
-          ∙ sym (same-byte (getD n k 0))
-          ∙ is-so (model.nameByte (getD n k 0)) (each-at (λ (b : ℕ). T (model.nameByte b)) n 0 (f .bytes) k l);
+          ∙ is-true (nameByte (getD n k 0)) (each-at (λ (b : ℕ). T (nameByte b)) n 0 (f .bytes) k l);
       zeros = λ k l m.
           let e : length n + (k - length n) ≡ k = omega arith in
           ap (at (n ++ replicate (16 - length n) 0)) (sym e)

@@ -1,30 +1,31 @@
 -- A run over the image of the machine that is made is the direct run, byte by byte. Assumes nothing.
-use Prim.Native.Nat.{ℕ, suc, _+_, _-_, _*_, _/_, _%_, _≤_, _<_}
+use Prim.Native.Nat.{ℕ, suc, _+_, _-_, _/_, _%_, _≤_, _<_}
 use mathlib.Core.Path.{_≡_, refl, sym, ap, subst, subst₂, _∙_}
 use mathlib.Core.List.{List, [], _∷_, _++_}
 use native.Mathlib.Omega.{arith}
 use native.Mathlib.Decide.{decLt}
-use lib.ListN.{length}
 use borrow.Author.Tests.{lt-ltb, le-ltb}
+use lib.ListN.{length}
 use Rattle.answers.specs.declared.Refusal.{Refusal}
-use Rattle.rule.specs.declared.operation.Kind.{Kind}
-use Rattle.rule.specs.declared.operation.Operation.{Operation}
-use Rattle.rule.specs.declared.operation.Byte.{Byte}
+use Rattle.operations.specs.declared.Kind.{Kind}
+use Rattle.operations.specs.declared.Operation.{Operation}
+use Rattle.operations.specs.declared.Byte.{Byte}
+use Rattle.operations.specs.Operation.{byteIs, fenceByte}
+use Rattle.operations.specs.Alphabet.{letterOf}
+use Rattle.operations.proofs.Bytes.{fence-read}
 use Rattle.rule.specs.declared.situation.Situation.{Situation}
 use Rattle.rule.specs.declared.way.Way.{Way}
 use Rattle.rule.specs.declared.way.Choice.{Choice}
-use Rattle.rule.specs.Operation.{byteIs, fenceByte}
 use Rattle.rule.specs.Pairs.{Model, fenceTable}
 use Rattle.rule.specs.Situation.{asks, offers, joins, pending, choiceOf, stepOf, stepped}
-use Rattle.rule.proofs.Bytes.{fence-read}
 use Rattle.runs.specs.declared.Move as Direct
 use Rattle.runs.specs.Bytes.{isFence, fenceBytes, Outcome, put, refuse, judgedAs}
 use Rattle.runs.specs.Moves.{movedBy, movedAs, moved, ahead, movesOn, moves}
 use Rattle.runs.proofs.ByMoves.{ahead-none}
-use Rattle.mealy.specs.Runs.{Answer, refused, taken}
+use Rattle.mealy.specs.Runs.{taken}
 use Rattle.mealy.proofs.Runs.{untaken}
 use Rattle.machine.specs.declared.machine.Machine.{Machine}
-use Rattle.machine.specs.Shim.{stepAnswer, lettersOf, shim}
+use Rattle.machine.specs.Shim.{stepAnswer, shim}
 use Rattle.machine.specs.Rows.{decoded}
 use Rattle.machine.specs.Generated.{Making}
 use Rattle.machine.proofs.Letters.{choice-low}
@@ -32,10 +33,9 @@ use Rattle.image.specs.declared.machine.Header.{Header}
 use Rattle.image_runs.specs.declared.Stop.{Stop}
 use Rattle.image_runs.specs.declared.Move.{Move}
 use Rattle.image_runs.specs.declared.Step.{Step}
-use Rattle.layout.specs.Layout.{at, position}
 use Rattle.layout.specs.Barred.{upstreamFencesOf}
 use Rattle.image.specs.Image.{word, imageOf, Canonical}
-use Rattle.image_runs.specs.Run.{letterOf, accessStep, stepAs, stepAt, Ran, ended, stopped, behind, resumed, ran, refusalOf}
+use Rattle.image_runs.specs.Run.{accessStep, stepAs, stepAt, Ran, ended, stopped, behind, resumed, ran, refusalOf}
 use Rattle.image.proofs.Canonicals.{ups-image, fence-image, next-image, onward-image}
 use Rattle.image_runs.proofs.Steps.{step-refused, step-plain, step-fenced}
 use Rattle.generation.proofs.Standing.{decoded-taken, decoded-refused, access-step, fence-step, letter-small, access-small, Stands, Alike, halt, lead, alike}

@@ -7,12 +7,12 @@ use Rattle.answers.specs.declared.Refusal.{Refusal}
 use Rattle.answers.specs.declared.Answer.{Answer}
 use Rattle.answers.specs.Given.{Given, refuses, Answers}
 use Rattle.answers.proofs.Given.{answers-refusal, answers-by, Answered, answered-same}
+use Rattle.answers.specs.declared.Verdict.{Verdict}
 use Rattle.tables.specs.declared.table.Table.{Table}
 use Rattle.rule.specs.declared.way.Way.{Way}
 use Rattle.rule.specs.Rule.{wayNumber}
 use Rattle.models.specs.declared.model.Model.{Model}
 use Rattle.models.specs.declared.model.Name.{Name}
-use Rattle.models.specs.declared.model.Verdict.{Verdict}
 use Rattle.models.specs.declared.model.Reading.{Reading}
 use Rattle.models.specs.Reading.{reading}
 use Rattle.runs.specs.declared.WayRead.{WayRead}

@@ -1,40 +1,40 @@
 -- A state of the machine that is made stands for each situation that is the same state: one letter's answer at the one is that at the other. Assumes
 -- nothing.
-use Prim.Native.Nat.{ℕ, _+_, _-_, _*_, _/_, _%_, _≤_, _<_}
+use Prim.Native.Nat.{ℕ, _+_, _-_, _/_, _%_, _<_}
 use mathlib.Core.Path.{_≡_, refl, sym, ap, _∙_}
-use mathlib.Core.Bool.{Bool, true, false}
+use mathlib.Core.Bool.{Bool, true, false, cond}
 use mathlib.Core.List.{List}
 use native.Mathlib.Omega.{arith}
+use borrow.Author.Tests.{lt-ltb, le-ltb, eqb-true}
 use lib.Dec.{eqb}
 use lib.ListN.{length}
-use borrow.Author.Tests.{lt-ltb, le-ltb, eqb-true}
-use Rattle.rule.specs.declared.operation.Kind.{Kind}
+use Rattle.operations.specs.declared.Kind.{Kind}
+use Rattle.operations.specs.Alphabet.{letterOf}
 use Rattle.rule.specs.declared.situation.Situation.{Situation}
 use Rattle.rule.specs.declared.way.Way.{Way}
 use Rattle.rule.specs.Pairs.{Model, fenceTable}
 use Rattle.rule.specs.Situation.{fresh, asks, stepped}
 use Rattle.mealy.specs.Runs.{Answer, refused, taken, Machine as Mealy, reached, Same}
-use Rattle.mealy.specs.Arrivals.{within, arrival, numbered}
+use Rattle.mealy.specs.Arrivals.{arrival, numbered}
 use Rattle.mealy.proofs.Runs.{untaken, same-eq, same-trans, same-refused, same-taken}
 use Rattle.mealy.proofs.Describing.{Stepped, neither, both, numbered-step, stepped as row-stepped, starts}
 use Rattle.machine.specs.declared.machine.Machine.{Machine}
-use Rattle.machine.specs.Shim.{kindOf, stepAnswer, lettersOf, shim}
+use Rattle.machine.specs.Shim.{stepAnswer, lettersOf, shim}
 use Rattle.machine.specs.Rows.{decoded, rowOf}
 use Rattle.machine.specs.Generated.{Making}
-use Rattle.image_runs.specs.Run.{letterOf}
 
 -- what a word says of its halves
 pub decoded-taken : (w o j : ℕ) → decoded w ≡ taken o j → (w / 256 ≡ o) × (w % 256 ≡ j)
 decoded-taken w o j e = look (eqb (w / 256) 254) e
   where
-    look : (b : Bool) → within b refused (taken (w / 256) (w % 256)) ≡ taken o j → (w / 256 ≡ o) × (w % 256 ≡ j)
+    look : (b : Bool) → cond b refused (taken (w / 256) (w % 256)) ≡ taken o j → (w / 256 ≡ o) × (w % 256 ≡ j)
     look true h = absurd (untaken h)
     look false h = ((cc), (cc))
 
 pub decoded-refused : (w : ℕ) → decoded w ≡ refused → w / 256 ≡ 254
 decoded-refused w e = look (eqb (w / 256) 254) refl e
   where
-    look : (b : Bool) → eqb (w / 256) 254 ≡ b → within b refused (taken (w / 256) (w % 256)) ≡ refused → w / 256 ≡ 254
+    look : (b : Bool) → eqb (w / 256) 254 ≡ b → cond b refused (taken (w / 256) (w % 256)) ≡ refused → w / 256 ≡ 254
     look true h k = eqb-true _ _ h
     look false h k = absurd (untaken (sym k))
 

@@ -5,22 +5,23 @@ use mathlib.Core.Logic.{_↔_}
 use mathlib.Core.List.{List, _++_}
 use native.Mathlib.Omega.{arith}
 use native.Mathlib.Decide.{decLt}
-use lib.ListN.{length, take, length-replicate}
 use borrow.Author.Tests.{lt-ltb, le-ltb, le-leb, lt-leb}
+use lib.ListN.{length, take, length-replicate}
+use Rattle.ground.proofs.Truths.{differ}
 use Rattle.answers.specs.declared.Refusal.{Refusal}
 use Rattle.answers.specs.Given.{Given, gives, refuses}
+use Rattle.answers.specs.declared.Verdict.{Verdict}
+use Rattle.answers.specs.declared.Verdict as image-verdict
+use Rattle.operations.specs.Alphabet.{stride}
 use Rattle.rule.specs.declared.way.Way.{Way}
 use Rattle.rule.specs.Pairs as rule
 use Rattle.rule.specs.Situation.{fresh}
-use Rattle.rule.proofs.Choices.{differ}
 use Rattle.models.specs.declared.model.Model.{Model}
-use Rattle.models.specs.declared.model.Verdict.{Verdict}
 use Rattle.models.specs.Reading.{reading}
 use Rattle.models.proofs.Words.{told}
 use Rattle.runs.specs.declared.WayRead.{WayRead}
 use Rattle.runs.specs.Bytes.{fenceBytes, Outcome as Directly, put, refuse, direct}
 use Rattle.runs.specs.Call.{wayOf, modelOf, outcome}
-use Rattle.runs.specs.Moves.{moves}
 use Rattle.runs.proofs.ByMoves.{direct-moves}
 use Rattle.runs.proofs.Whole.{whole-when}
 use Rattle.machine.specs.declared.machine.Machine.{Machine}
@@ -29,11 +30,10 @@ use Rattle.machine.specs.Shim.{shim, shimOf}
 use Rattle.machine.specs.Generated.{Making, Built, Generated}
 use Rattle.machine.specs.Counted.{ManySituations, ManyStates}
 use Rattle.machine.proofs.Theorems.{modelOf as namedModel, refused-8-exactly-when, refused-9-exactly-when}
-use Rattle.layout.specs.declared.verdict.Verdict as image-verdict
 use Rattle.image.specs.declared.machine.Header.{Header}
 use Rattle.layout.specs.Layout.{blocksFor}
 use Rattle.layout.specs.Barred.{statesOf, verdictOf}
-use Rattle.image.specs.Image.{stride, imageOf, headerOf, rowsOf, Canonical}
+use Rattle.image.specs.Image.{imageOf, headerOf, rowsOf, Canonical}
 use Rattle.image_runs.specs.Run as over
 use Rattle.image_runs.specs.Run.{ran, runOver, outcomeOf}
 use Rattle.image.proofs.Canonicals.{states-image}

@@ -5,9 +5,9 @@ use mathlib.Core.List.{List}
 use Rattle.answers.specs.declared.Answer.{Answer}
 use Rattle.answers.specs.Given.{Given, Answers}
 use Rattle.answers.proofs.Given as given
+use Rattle.answers.specs.declared.Verdict.{Verdict}
 use Rattle.rule.specs.declared.way.Way.{Way}
 use Rattle.models.specs.declared.model.Model.{Model}
-use Rattle.models.specs.declared.model.Verdict.{Verdict}
 use Rattle.models.specs.Reading.{reading}
 use Rattle.runs.specs.declared.WayRead.{WayRead}
 use Rattle.runs.specs.Call.{wayOf, modelOf}

@@ -1,15 +1,15 @@
 -- Generating to an image: two model texts, a way and a buffer. Document 01: "Order: way ..; upstream text (1, 2, 3); target text; ..; 8; 9; 7 last";
 -- "A machine's image" has the way, the states, the fences and the two names in its block 0.
-use Prim.Native.Nat.{ℕ, _≤_, _<_}
+use Prim.Native.Nat.{ℕ, _<_}
 use mathlib.Core.Path.{_≡_}
 use mathlib.Core.List.{List}
-use lib.ListN.{length, take, replicate}
+use lib.ListN.{replicate}
 use Rattle.answers.specs.declared.Refusal.{Refusal}
 use Rattle.answers.specs.Given.{Given, gives, refuses}
+use Rattle.answers.specs.declared.Verdict.{Verdict}
 use Rattle.rule.specs.declared.way.Way.{Way}
 use Rattle.models.specs.declared.model.Model.{Model}
 use Rattle.models.specs.declared.model.Name.{Name}
-use Rattle.models.specs.declared.model.Verdict.{Verdict}
 use Rattle.models.specs.Reading.{reading}
 use Rattle.runs.specs.declared.WayRead.{WayRead}
 use Rattle.runs.specs.Call.{wayOf, modelOf}

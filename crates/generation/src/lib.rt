@@ -6,12 +6,12 @@ ghost use Rattle.runs.specs.Call.{Whole};
 ghost use Rattle.generation.specs.Generating.{headerFor, givenBy, MachineGiven, GivenOnto, GivenUnder, ImageGiven, Small, SmallMade};
 use answers::Answer;
 use answers::Refusal;
+use answers::Verdict;
 use image::machine::Header;
 use machine::machine::Machine;
 use machine::machine::Outcome;
 use models::model::Model;
 use models::model::Name;
-use models::model::Verdict;
 use rule::way::Way;
 use runs::WayRead;
 

@@ -3,6 +3,7 @@
 ghost use mathlib.Core.Path.{_≡_};
 ghost use lib.ListN.{length};
 ghost use Rattle.answers.specs.Answer.{numbersOf};
+ghost use Rattle.answers.specs.Given as Given;
 ghost use Rattle.models.specs.Text.{textOf};
 ghost use Rattle.models.specs.Reading.{reading};
 ghost use Rattle.built_ins.specs.BuiltIns.{builtIn, builtInReading};
@@ -11,7 +12,6 @@ ghost use Rattle.comparison.specs.Comparison.{comparing};
 ghost use Rattle.runs.specs.Call.{outcome, answerOf, bufferOf};
 ghost use Rattle.image.specs.Calls.{writtenBack, headerAs};
 ghost use Rattle.image_runs.specs.Run.{runOver};
-ghost use Rattle.answers.specs.Given as Given;
 ghost use Rattle.generation.specs.Generating.{ImageGiven};
 ghost use Rattle.listing.specs.Listed.{Listed};
 ghost use Rattle.host.specs.Border.{numberIn, relationOf, comparedAs, Tells};

@@ -1,26 +1,27 @@
 -- Of an image that is accepted: its machine's image is the image itself. Assumes nothing.
-use Prim.Native.Nat.{ℕ, suc, _+_, _-_, _*_, _/_, _%_, _<_, _≤_, max}
+use Prim.Native.Nat.{ℕ, _+_, _-_, _*_, _/_, _%_, _<_, _≤_}
 use mathlib.Core.Path.{_≡_, refl, sym, ap, ap₂, subst, _∙_}
-use mathlib.Core.Bool.{Bool, true, false, not}
+use mathlib.Core.Bool.{Bool, true, false, not, cond}
 use mathlib.Core.Logic.{_⊎_, inl, inr}
 use mathlib.Core.List.{List}
 use native.Mathlib.Decide.{ℕ-discrete, decLt}
 use native.Mathlib.Omega.{arith}
+use borrow.Author.Tests.{lt-ltb, le-ltb, le-leb, eq-eqb, ne-eqb, ltb-false, leb-false, eqb-true, eqb-false}
 use lib.Dec.{leb, ltb, eqb}
 use lib.ListN.{length}
-use borrow.Author.Tests.{lt-ltb, le-ltb, le-leb, eq-eqb, ne-eqb, ltb-false, leb-false, eqb-true, eqb-false}
-use Rattle.tables.specs.Table.{choose}
+use Rattle.ground.specs.declared.Found.{Found}
+use Rattle.ground.specs.Lowest.{lowest}
+use Rattle.ground.specs.Bytes.{at}
 use Rattle.answers.specs.declared.Refusal.{Refusal}
+use Rattle.answers.specs.declared.Verdict.{Verdict}
+use Rattle.operations.specs.Alphabet.{stride}
 use Rattle.layout.specs.declared.places.Place.{Place}
-use Rattle.layout.specs.declared.verdict.Found.{Found}
-use Rattle.layout.specs.declared.verdict.Verdict.{Verdict}
-use Rattle.image.specs.declared.machine.Header.{Header}
 use Rattle.layout.specs.Checksum.{twoBytes}
-use Rattle.layout.specs.Layout.{limit, blocksFor, at, standsAt, position}
-use Rattle.layout.specs.Barred.{lowest, wrong, checkOf, blockCount, wrongCount, barredFence, nextBelow, statesOf, upstreamFencesOf, targetFencesOf, barredAs, barred, stages, verdictOf}
-use Rattle.image.specs.Image.{listed, stride, word, half, used, valueAs, valueAt, byteAt, sizeOf, imageOf, headerOf, entryWord, rowsOf, AccessWord, Canonical}
+use Rattle.layout.specs.Layout.{limit, blocksFor, standsAt, position}
+use Rattle.layout.specs.Barred.{wrong, checkOf, blockCount, wrongCount, barredFence, nextBelow, statesOf, upstreamFencesOf, targetFencesOf, barredAs, barred, stages, verdictOf}
+use Rattle.image.specs.Image.{word, half, used, valueAs, valueAt, byteAt, imageOf, headerOf, entryWord, rowsOf, AccessWord, Canonical}
 use Rattle.image.proofs.Inverse.{true-false, neither, chosen, equal, nowhere}
-use Rattle.image.proofs.Fronts.{length-listed, at-listed, is-listed}
+use Rattle.image.proofs.Fronts.{at-listed, is-listed}
 use Rattle.layout.proofs.Standing.{Stands, stands, fence-at, next-at, onward-at, upstream-at, target-at, within-image}
 use Rattle.image.proofs.NameFields.{good-field}
 use Rattle.layout.proofs.Sums.{check-same}
@@ -46,7 +47,7 @@ unfolding verdictOf
 accepted-right image e = go (ltb limit (length image)) refl e
   where
     go : (t : Bool) → ltb limit (length image) ≡ t
-        → choose t (Verdict.Refused Refusal.OverLimit)
+        → cond t (Verdict.Refused Refusal.OverLimit)
         (stages (lowest (wrong image) 0 (blockCount image)) (lowest (barred image) 0 (length image)))
         ≡ Verdict.Accepted
         → Right image
@@ -145,7 +146,7 @@ module _ (image : List ℕ) (bytes : (i : ℕ) → at image i < 256) (right : Ri
   unfolding half
   number-same i l u = go (ℕ-discrete (i % 2) 0)
     where
-      go : Dec (i % 2 ≡ 0) → choose (eqb (i % 2) 0) (i / 512 / 256) (i / 512 % 256) ≡ at image i
+      go : Dec (i % 2 ≡ 0) → cond (eqb (i % 2) 0) (i / 512 / 256) (i / 512 % 256) ≡ at image i
       go (yes e) =
           let k : 512 * (i / 512) ≡ i = omega arith in
           rw (eq-eqb (i % 2) 0 e)
@@ -160,10 +161,10 @@ module _ (image : List ℕ) (bytes : (i : ℕ) → at image i < 256) (right : Ri
   access-word q a l k = word-is q a l (omega arith) ∙ access-is q a k
 
   fence-same : (q a i : ℕ) → i ≡ position 1 q (2 * a) → a < 4 → barredFence image q (at image i) ≡ false
-      → choose (ltb q (statesOf image)) (word (rowsOf image) q a / 256) 0 ≡ at image i
+      → cond (ltb q (statesOf image)) (word (rowsOf image) q a / 256) 0 ≡ at image i
   fence-same q a i e k h = go (decLt q (statesOf image))
     where
-      go : Dec (q < statesOf image) → choose (ltb q (statesOf image)) (word (rowsOf image) q a / 256) 0 ≡ at image i
+      go : Dec (q < statesOf image) → cond (ltb q (statesOf image)) (word (rowsOf image) q a / 256) 0 ≡ at image i
       go (yes l) =
           rw (lt-ltb q (statesOf image) l)
           (omega (arith, access-word q a l k, bytes (position 1 q (2 * a + 1)), ap (at image) e))
@@ -172,10 +173,10 @@ module _ (image : List ℕ) (bytes : (i : ℕ) → at image i < 256) (right : Ri
           rw (le-ltb q (statesOf image) m) (sym (fence-zero q (at image i) m h))
 
   next-same : (q a i : ℕ) (t : Bool) → i ≡ position 1 q (2 * a + 1) → a < 4 → leb (nextBelow image q t) (at image i) ≡ false
-      → choose (ltb q (statesOf image)) (word (rowsOf image) q a % 256) 0 ≡ at image i
+      → cond (ltb q (statesOf image)) (word (rowsOf image) q a % 256) 0 ≡ at image i
   next-same q a i t e k h = go (decLt q (statesOf image))
     where
-      go : Dec (q < statesOf image) → choose (ltb q (statesOf image)) (word (rowsOf image) q a % 256) 0 ≡ at image i
+      go : Dec (q < statesOf image) → cond (ltb q (statesOf image)) (word (rowsOf image) q a % 256) 0 ≡ at image i
       go (yes l) =
           rw (lt-ltb q (statesOf image) l)
           (omega (arith, access-word q a l k, bytes (position 1 q (2 * a + 1)), ap (at image) e))
@@ -185,11 +186,11 @@ module _ (image : List ℕ) (bytes : (i : ℕ) → at image i < 256) (right : Ri
 
   onward-same : (q f i : ℕ) → i ≡ position 1 q (8 + f) → f < 16
       → leb (nextBelow image q (ltb f (upstreamFencesOf image))) (at image i) ≡ false
-      → choose (ltb q (statesOf image)) (word (rowsOf image) q (4 + f) % 256) 0 ≡ at image i
+      → cond (ltb q (statesOf image)) (word (rowsOf image) q (4 + f) % 256) 0 ≡ at image i
   onward-same q f i e k h = go (decLt q (statesOf image)) (decLt f (upstreamFencesOf image))
     where
       go : Dec (q < statesOf image) → Dec (f < upstreamFencesOf image)
-          → choose (ltb q (statesOf image)) (word (rowsOf image) q (4 + f) % 256) 0 ≡ at image i
+          → cond (ltb q (statesOf image)) (word (rowsOf image) q (4 + f) % 256) 0 ≡ at image i
       go (yes l) (yes m) =
           rw (lt-ltb q (statesOf image) l)
           (omega
@@ -262,7 +263,7 @@ module _ (image : List ℕ) (bytes : (i : ℕ) → at image i < 256) (right : Ri
   unfolding barredFence
   fence-kept s v l u e = go (decLt v (targetFencesOf image)) (decLt v 254) (ℕ-discrete v 254)
     where
-      open-e : choose (leb (targetFencesOf image) v) (ltb v 254) false ≡ false
+      open-e : cond (leb (targetFencesOf image) v) (ltb v 254) false ≡ false
       open-e = rw (lt-ltb s (statesOf image) l) at e
 
       go : Dec (v < targetFencesOf image) → Dec (v < 254) → Dec (v ≡ 254) → (v ≡ 254) ⊎ ((v < targetFencesOf image) ⊎ (v ≡ 255))

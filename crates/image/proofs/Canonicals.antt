@@ -1,22 +1,23 @@
 -- Of a machine of the layout: its image is accepted, and reads as the same machine. Assumes nothing.
 use Prim.Native.Nat.{ℕ, _+_, _-_, _*_, _/_, _%_, _<_, _≤_}
-use mathlib.Core.Path.{_≡_, refl, sym, ap, ap₂, subst, _∙_}
-use mathlib.Core.Bool.{Bool, true, false, not}
+use mathlib.Core.Path.{_≡_, refl, sym, ap, subst, _∙_}
+use mathlib.Core.Bool.{Bool, true, false, not, cond}
 use mathlib.Core.Logic.{_⊎_, inl, inr}
 use mathlib.Core.List.{List}
-use native.Mathlib.Decide.{ℕ-discrete, decLt}
+use native.Mathlib.Decide.{decLt}
 use native.Mathlib.Omega.{arith}
+use borrow.Author.Tests.{lt-ltb, le-ltb, lt-leb, eq-eqb, ne-eqb}
 use lib.Dec.{leb, ltb, eqb}
 use lib.ListN.{length, take}
-use borrow.Author.Tests.{lt-ltb, le-ltb, le-leb, lt-leb, eq-eqb, ne-eqb}
-use Rattle.tables.specs.Table.{choose}
+use Rattle.ground.specs.Bytes.{at}
+use Rattle.answers.specs.declared.Verdict.{Verdict}
+use Rattle.operations.specs.Alphabet.{stride}
 use Rattle.layout.specs.declared.places.Place.{Place}
-use Rattle.layout.specs.declared.verdict.Verdict.{Verdict}
 use Rattle.image.specs.declared.machine.Header.{Header}
 use Rattle.layout.specs.Checksum.{twoBytes}
-use Rattle.layout.specs.Layout.{limit, blocksFor, at, standsAt, position}
-use Rattle.layout.specs.Barred.{wrong, checkOf, blockCount, wrongCount, barredName, barredFence, nextBelow, statesOf, upstreamFencesOf, targetFencesOf, barredAs, barred, verdictOf}
-use Rattle.image.specs.Image.{listed, stride, word, half, used, valueAs, valueAt, byteAt, sizeOf, imageOf, headerOf, entryWord, rowsOf, AccessWord, Canonical, Front}
+use Rattle.layout.specs.Layout.{limit, blocksFor, standsAt, position}
+use Rattle.layout.specs.Barred.{wrong, checkOf, blockCount, wrongCount, barredFence, nextBelow, statesOf, upstreamFencesOf, targetFencesOf, barredAs, barred, verdictOf}
+use Rattle.image.specs.Image.{listed, word, half, used, valueAs, valueAt, byteAt, sizeOf, imageOf, headerOf, entryWord, rowsOf, AccessWord, Canonical}
 use Rattle.image.proofs.Inverse.{all-nowhere}
 use Rattle.image.proofs.Fronts.{length-listed, at-listed, is-listed, front-whole}
 use Rattle.layout.proofs.Sums.{check-same}
@@ -24,7 +25,7 @@ use Rattle.layout.proofs.Standing.{Stands, stands, number-at, fence-at, next-at
 use Rattle.image.proofs.Sealing.{byte-content, written-check, byte-high, byte-low}
 use Rattle.image.proofs.NameFields.{field-good}
 
-never : (t : Bool) → choose t false false ≡ false
+never : (t : Bool) → cond t false false ≡ false
 never true = refl
 never false = refl
 
@@ -121,7 +122,7 @@ module _ (h : Header) (rows : List ℕ) (can : Canonical h rows) where
   unfolding barredFence
   fence-good s v l c = rw (states-image, targets-image, lt-ltb s (h .states) l) (go c)
     where
-      go : (v ≡ 254) ⊎ ((v < h .targets) ⊎ (v ≡ 255)) → choose (leb (h .targets) v) (ltb v 254) false ≡ false
+      go : (v ≡ 254) ⊎ ((v < h .targets) ⊎ (v ≡ 255)) → cond (leb (h .targets) v) (ltb v 254) false ≡ false
       go (inl e) = rw (le-ltb v 254 (omega arith)) (never (leb (h .targets) v))
       go (inr (inl k)) = rw (lt-leb (h .targets) v k)
       go (inr (inr e)) = rw (le-ltb v 254 (omega arith)) (never (leb (h .targets) v))
@@ -277,8 +278,8 @@ module _ (h : Header) (rows : List ℕ) (can : Canonical h rows) where
           ∙ ap (λ (b : ℕ). word rows s b % 256) (letter m)
 
       go : Dec (a < 4) → Dec (a - 4 < h .ups)
-          → choose (ltb a 4) (twoBytes (at (imageOf h rows) (position 1 s (2 * a))) (at (imageOf h rows) (position 1 s (2 * a + 1))))
-          (choose (ltb (a - 4) (upstreamFencesOf (imageOf h rows))) (twoBytes 255 (at (imageOf h rows) (position 1 s (4 + a)))) 0)
+          → cond (ltb a 4) (twoBytes (at (imageOf h rows) (position 1 s (2 * a))) (at (imageOf h rows) (position 1 s (2 * a + 1))))
+          (cond (ltb (a - 4) (upstreamFencesOf (imageOf h rows))) (twoBytes 255 (at (imageOf h rows) (position 1 s (4 + a)))) 0)
           ≡ word rows s a
       go (yes m) d = rw (lt-ltb a 4 m) (omega (arith, fence-image s a l m, next-image s a l m))
       go (no m) (yes d) =

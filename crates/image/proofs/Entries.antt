@@ -3,8 +3,9 @@ use Prim.Native.Nat.{ℕ, _+_, _-_, _*_, _<_, _≤_}
 use mathlib.Core.Path.{_≡_, ap, ap₂, _∙_}
 use mathlib.Core.List.{List}
 use borrow.Author.Tests.{lt-ltb, le-ltb}
+use Rattle.ground.specs.Bytes.{at}
 use Rattle.layout.specs.Checksum.{twoBytes}
-use Rattle.layout.specs.Layout.{at, entryStart}
+use Rattle.layout.specs.Layout.{entryStart}
 use Rattle.image.specs.Image.{entryWord}
 
 module _ (image : List ℕ) (s a : ℕ) (entry : ℕ) (start : entry ≡ entryStart 1 s) where

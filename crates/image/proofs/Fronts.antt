@@ -1,15 +1,14 @@
 -- Lists that are filled from the front. Assumes nothing.
-use Prim.Native.Nat.{ℕ, zero, suc, _+_, _-_, _*_, _<_, _≤_}
+use Prim.Native.Nat.{ℕ, zero, suc, _+_, _-_, _<_, _≤_}
 use mathlib.Core.Path.{_≡_, refl, sym, ap, subst, _∙_}
 use mathlib.Core.List.{List, [], _∷_, _++_}
 use native.Mathlib.Decide.{ℕ-discrete, decLt}
-use native.Mathlib.Numerals.{add-one}
 use native.Mathlib.Omega.{arith}
-use lib.ListN.{length, getD, set, take, drop, length-append, length-set, length-drop, List·getD-append}
-use lib.Seq.{getD-set-same, getD-set-other, getD-at, getD-append-add, getD-drop, ext-getD, getD-take, length-take-le}
 use borrow.Author.Tests.{le-leb}
+use lib.ListN.{length, set, take, drop, length-append, length-set, length-drop, List·getD-append}
+use lib.Seq.{getD-set-same, getD-set-other, getD-at, getD-append-add, getD-drop, ext-getD, getD-take, length-take-le}
+use Rattle.ground.specs.Bytes.{at}
 use Rattle.answers.specs.Written.{written}
-use Rattle.layout.specs.Layout.{at}
 use Rattle.image.specs.Image.{listed, Front, Filled}
 
 pub length-listed : (n : ℕ) (f : ℕ → ℕ) → length (listed n f) ≡ n

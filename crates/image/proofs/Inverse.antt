@@ -1,14 +1,13 @@
 -- What a test that fails tells, and what a search that finds nothing. Assumes nothing.
 use Prim.Native.Nat.{ℕ, zero, suc, _+_, _<_, _≤_}
-use mathlib.Core.Path.{_≡_, refl, sym, ap, subst, _∙_}
-use mathlib.Core.Bool.{Bool, true, false, not}
+use mathlib.Core.Path.{_≡_, refl, ap, subst, _∙_}
+use mathlib.Core.Bool.{Bool, true, false, not, cond}
 use native.Mathlib.Decide.{ℕ-discrete}
 use native.Mathlib.Omega.{arith}
-use lib.Dec.{leb, eqb}
 use borrow.Author.Tests.{eqb-true, not-false}
-use Rattle.tables.specs.Table.{choose}
-use Rattle.layout.specs.declared.verdict.Found.{Found}
-use Rattle.layout.specs.Barred.{lowest}
+use lib.Dec.{eqb}
+use Rattle.ground.specs.declared.Found.{Found}
+use Rattle.ground.specs.Lowest.{lowest}
 
 abbrev Is : Bool → Type 0
 Is true = Unit {0}
@@ -18,11 +17,11 @@ pub true-false : {A : Type 0} → true ≡ false → A
 true-false e = absurd (subst Is e tt)
 
 -- no test passes of those that end a choice
-pub neither : (t : Bool) {x : Bool} → choose t true x ≡ false → (t ≡ false) × (x ≡ false)
+pub neither : (t : Bool) {x : Bool} → cond t true x ≡ false → (t ≡ false) × (x ≡ false)
 neither true e = true-false e
 neither false e = (refl, e)
 
-pub chosen : (t : Bool) {x : Bool} → choose t x true ≡ false → (t ≡ true) × (x ≡ false)
+pub chosen : (t : Bool) {x : Bool} → cond t x true ≡ false → (t ≡ true) × (x ≡ false)
 chosen true e = (refl, e)
 chosen false e = true-false e
 
@@ -38,7 +37,7 @@ unfolding lowest
 nowhere f zero k e j l u = absurd (omega arith)
 nowhere f (suc n) k e j l u = at (f k) refl e (λ w m. nowhere f n (suc k) w j m (omega arith))
   where
-    at : (t : Bool) → f k ≡ t → choose t (Found.At k) (lowest f (suc k) n) ≡ Found.Nowhere
+    at : (t : Bool) → f k ≡ t → cond t (Found.At k) (lowest f (suc k) n) ≡ Found.Nowhere
         → (lowest f (suc k) n ≡ Found.Nowhere → suc k ≤ j → f j ≡ false) → f j ≡ false
     at true h w rest = absurd (subst Somewhere w tt)
     at false h w rest = by (ℕ-discrete j k)

@@ -1,22 +1,18 @@
 -- A name field has no barred byte exactly where it is a name filled up with zeros. Assumes nothing.
 use Prim.Native.Nat.{ℕ, zero, suc, _+_, _<_, _≤_}
-use mathlib.Core.Path.{_≡_, refl, sym, ap, subst, _∙_}
-use mathlib.Core.Bool.{Bool, true, false}
+use mathlib.Core.Path.{_≡_, refl, sym, ap, _∙_}
+use mathlib.Core.Bool.{true, false}
 use mathlib.Core.List.{List}
 use native.Mathlib.Decide.{ℕ-discrete, decLt}
 use native.Mathlib.Omega.{arith}
-use lib.Dec.{eqb}
-use lib.ListN.{length}
 use borrow.Author.Tests.{eq-eqb, ne-eqb}
-use Rattle.tables.specs.Table.{choose}
-use Rattle.layout.specs.Layout.{at}
-use Rattle.layout.specs.Barred.{nameByte, ended, barredName}
+use Rattle.ground.specs.Bytes.{at, nameByte}
+use Rattle.layout.specs.Barred.{ended, barredName}
 use Rattle.image.specs.Image.{listed, NameField}
 use Rattle.image.proofs.Inverse.{true-false, chosen}
 use Rattle.image.proofs.Fronts.{length-listed, at-listed}
 
 pub name-nonzero : (b : ℕ) → nameByte b ≡ true → b ≡ 0 → ⊥
-unfolding nameByte
 name-nonzero b h e = true-false (sym (sym (ap nameByte e) ∙ h))
 
 module _ (image : List ℕ) (from : ℕ) where

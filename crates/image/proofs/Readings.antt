@@ -1,18 +1,19 @@
 -- What reading an image gives. Assumes nothing.
-use Prim.Native.Nat.{ℕ, _+_, _*_, _/_, _%_, _<_, _≤_}
-use mathlib.Core.Path.{_≡_, refl, sym, ap, ap₂, subst, _∙_}
+use Prim.Native.Nat.{ℕ, _*_, _/_, _%_, _<_, _≤_}
+use mathlib.Core.Path.{_≡_, sym, ap, _∙_}
 use mathlib.Core.List.{List}
 use native.Mathlib.Omega.{arith}
-use lib.ListN.{length}
 use borrow.Author.Tests.{le-leb, lt-leb}
+use lib.ListN.{length}
+use Rattle.ground.specs.Bytes.{at}
 use Rattle.answers.specs.Written.{written}
 use Rattle.answers.specs.declared.Refusal.{Refusal}
-use Rattle.layout.specs.declared.verdict.Verdict.{Verdict}
+use Rattle.answers.specs.declared.Verdict.{Verdict}
+use Rattle.operations.specs.Alphabet.{stride}
 use Rattle.image.specs.declared.machine.Header.{Header}
 use Rattle.image.specs.declared.machine.Reading.{Reading}
-use Rattle.layout.specs.Layout.{at}
 use Rattle.layout.specs.Barred.{statesOf, verdictOf}
-use Rattle.image.specs.Image.{listed, stride, headerOf, entryWord, rowsOf, refusedReading, readAs, rowsAs, readingOf, rowsAfter, Filled}
+use Rattle.image.specs.Image.{headerOf, entryWord, rowsOf, refusedReading, readAs, rowsAs, readingOf, rowsAfter, Filled}
 use Rattle.image.proofs.Fronts.{length-listed, filled-to, filled-whole}
 
 pub length-rows : (image : List ℕ) → length (rowsOf image) ≡ statesOf image * stride

@@ -1,14 +1,14 @@
 -- Blocks are filled, and then sealed with their checks. Assumes nothing.
 use Prim.Native.Nat.{ℕ, _+_, _*_, _/_, _%_, _<_, _≤_}
-use mathlib.Core.Path.{_≡_, refl, sym, ap, ap₂, subst, _∙_}
+use mathlib.Core.Path.{_≡_, sym, ap, subst, _∙_}
 use mathlib.Core.List.{List}
 use native.Mathlib.Nat.{add-assoc, add-zero}
 use native.Mathlib.Omega.{arith}
-use lib.ListN.{length, set, take, length-set}
 use borrow.Author.Tests.{lt-ltb, le-ltb, eq-eqb, ne-eqb}
+use lib.ListN.{length, set, take, length-set}
 use Rattle.image.specs.declared.machine.Header.{Header}
 use Rattle.layout.specs.Checksum.{checksum}
-use Rattle.layout.specs.Layout.{blocksFor, at}
+use Rattle.layout.specs.Layout.{blocksFor}
 use Rattle.layout.specs.Barred.{checkOf}
 use Rattle.image.specs.Image.{half, valueAt, byteAt, imageOf, sizeOf, sealed, Front}
 use Rattle.layout.proofs.Sums.{check-same}

@@ -3,11 +3,13 @@ use Prim.Native.Nat.{ℕ, _*_, _<_, _≤_}
 use mathlib.Core.Path.{_≡_}
 use mathlib.Core.List.{List}
 use lib.ListN.{length, take}
-use Rattle.layout.specs.declared.verdict.Verdict.{Verdict}
+use Rattle.ground.specs.Bytes.{at}
+use Rattle.answers.specs.declared.Verdict.{Verdict}
+use Rattle.operations.specs.Alphabet.{stride}
 use Rattle.image.specs.declared.machine.Header.{Header}
-use Rattle.layout.specs.Layout.{blocksFor, at}
+use Rattle.layout.specs.Layout.{blocksFor}
 use Rattle.layout.specs.Barred.{verdictOf}
-use Rattle.image.specs.Image.{stride, imageOf, headerOf, rowsOf, Canonical}
+use Rattle.image.specs.Image.{imageOf, headerOf, rowsOf, Canonical}
 use Rattle.image.proofs.Accepted.{accepted-right, image-same, canonical-read}
 use Rattle.image.proofs.Canonicals.{length-image, canonical-accepted, same-header, same-rows-taken}
 

@@ -1,12 +1,11 @@
 -- What is written at a byte, by its place. Assumes nothing.
-use Prim.Native.Nat.{ℕ, _+_, _*_, _/_, _%_, _<_, _≤_}
-use mathlib.Core.Path.{_≡_, refl, sym, ap, ap₂, _∙_}
+use Prim.Native.Nat.{ℕ, _<_, _≤_}
+use mathlib.Core.Path.{_≡_, sym, ap, _∙_}
 use mathlib.Core.List.{List}
-use native.Mathlib.Omega.{arith}
-use borrow.Author.Tests.{lt-ltb, le-ltb, eq-eqb, ne-eqb}
+use borrow.Author.Tests.{lt-ltb, le-ltb}
 use Rattle.layout.specs.declared.places.Place.{Place}
 use Rattle.image.specs.declared.machine.Header.{Header}
-use Rattle.layout.specs.Layout.{at, standsAt}
+use Rattle.layout.specs.Layout.{standsAt}
 use Rattle.image.specs.Image.{used, valueAs, valueAt}
 
 module _ (h : Header) (s n v w : ℕ) (states : n ≡ h .states) where

@@ -3,20 +3,21 @@ use Prim.Native.Nat.{ℕ, _*_, _<_, _≤_}
 use mathlib.Core.Path.{_≡_, refl, sym, ap, ap₂, _∙_}
 use mathlib.Core.List.{List, [], _∷_}
 use native.Mathlib.Omega.{arith}
+use borrow.Author.Tests.{le-leb}
 use lib.ListN.{length, take, drop, replicate, length-replicate}
 use lib.Seq.{take-at}
-use borrow.Author.Tests.{le-leb}
+use Rattle.ground.specs.Bytes.{at}
 use Rattle.answers.specs.Written.{written, writing}
 use Rattle.answers.specs.declared.Refusal.{Refusal}
 use Rattle.answers.specs.declared.Answer.{Answer}
-use Rattle.layout.specs.declared.verdict.Verdict.{Verdict}
-use Rattle.image.specs.declared.machine.Header.{Header}
-use Rattle.image.specs.declared.machine.Reading.{Reading}
-use Rattle.layout.specs.Layout.{at}
-use Rattle.layout.specs.Barred.{statesOf, upstreamFencesOf, targetFencesOf, verdictOf}
-use Rattle.image.specs.Image.{stride, imageOf, headerOf, rowsOf, readAs, rowsAs, readingOf, rowsAfter}
 use Rattle.answers.specs.Given.{refuses, gives}
 use Rattle.answers.proofs.Given.{Answered, answered-same}
+use Rattle.answers.specs.declared.Verdict.{Verdict}
+use Rattle.operations.specs.Alphabet.{stride}
+use Rattle.image.specs.declared.machine.Header.{Header}
+use Rattle.image.specs.declared.machine.Reading.{Reading}
+use Rattle.layout.specs.Barred.{statesOf, upstreamFencesOf, targetFencesOf, verdictOf}
+use Rattle.image.specs.Image.{imageOf, headerOf, rowsOf, readAs, rowsAs, readingOf, rowsAfter}
 use Rattle.image.specs.Calls.{backAs, writtenBack, headerAs}
 use Rattle.image.proofs.Readings.{length-rows}
 use Rattle.image.proofs.Theorems.{read-then-written}

@@ -3,11 +3,11 @@
 -- that the image holds; "A refusal returns its number and place, every other number zero".
 use Prim.Native.Nat.{ℕ}
 use mathlib.Core.List.{List, [], _∷_}
+use Rattle.ground.specs.Bytes.{at}
 use Rattle.answers.specs.declared.Answer.{Answer}
-use Rattle.layout.specs.declared.verdict.Verdict.{Verdict}
-use Rattle.layout.specs.Layout.{at}
-use Rattle.layout.specs.Barred.{statesOf, upstreamFencesOf, targetFencesOf, verdictOf}
 use Rattle.answers.specs.Given.{Given, refuses, gives}
+use Rattle.answers.specs.declared.Verdict.{Verdict}
+use Rattle.layout.specs.Barred.{statesOf, upstreamFencesOf, targetFencesOf, verdictOf}
 
 -- what is written back is the image itself
 abbrev pub backAs : List ℕ → Verdict → Given

@@ -4,29 +4,27 @@
 -- is 0.
 use Prim.Native.Nat.{ℕ, zero, suc, _+_, _-_, _*_, _/_, _%_, _<_, _≤_}
 use mathlib.Core.Path.{_≡_}
-use mathlib.Core.Bool.{Bool, true, false}
+use mathlib.Core.Bool.{true, cond}
 use mathlib.Core.Logic.{_⊎_}
 use mathlib.Core.List.{List, [], _∷_, _++_}
 use lib.Dec.{leb, ltb, eqb}
 use lib.ListN.{length, set, replicate}
+use Rattle.ground.specs.Bytes.{at, nameByte}
 use Rattle.answers.specs.Written.{written}
 use Rattle.answers.specs.declared.Refusal.{Refusal}
-use Rattle.tables.specs.Table.{choose}
+use Rattle.answers.specs.declared.Verdict.{Verdict}
+use Rattle.operations.specs.Alphabet.{stride}
 use Rattle.layout.specs.declared.places.Place.{Place}
-use Rattle.layout.specs.declared.verdict.Verdict.{Verdict}
 use Rattle.image.specs.declared.machine.Header.{Header}
 use Rattle.image.specs.declared.machine.Reading.{Reading}
 use Rattle.layout.specs.Checksum.{twoBytes, checksum}
-use Rattle.layout.specs.Layout.{accesses, blocksFor, at, standsAt, position}
-use Rattle.layout.specs.Barred.{checkOf, nameByte, statesOf, upstreamFencesOf, targetFencesOf, verdictOf}
+use Rattle.layout.specs.Layout.{accesses, blocksFor, standsAt, position}
+use Rattle.layout.specs.Barred.{checkOf, statesOf, upstreamFencesOf, targetFencesOf, verdictOf}
 
 -- the first n values of f
 unfoldable pub listed : ℕ → (ℕ → ℕ) → List ℕ
 listed zero f = []
 listed (suc n) f = listed n f ++ (f n ∷ [])
-
-abbrev pub stride : ℕ
-stride = 20
 
 -- the word of a state and a letter, in rows
 abbrev pub word : List ℕ → ℕ → ℕ → ℕ
@@ -36,11 +34,11 @@ word rows s a = at rows (s * stride + a)
 
 -- the byte of a two-byte number that stands at an even or an odd index
 unfoldable pub half : ℕ → ℕ → ℕ
-half i n = choose (eqb (i % 2) 0) (n / 256) (n % 256)
+half i n = cond (eqb (i % 2) 0) (n / 256) (n % 256)
 
 -- "Unused states are zero"
 unfoldable pub used : Header → ℕ → ℕ → ℕ
-used h s v = choose (ltb s (h .states)) v 0
+used h s v = cond (ltb s (h .states)) v 0
 
 abbrev pub valueAs : Header → List ℕ → ℕ → Place → ℕ
 valueAs h rows i Place.Number = half i (i / 512)
@@ -64,7 +62,7 @@ valueAt h rows i = valueAs h rows i (standsAt 1 i)
 -- and the checks with it
 unfoldable pub byteAt : Header → List ℕ → ℕ → ℕ
 byteAt h rows i =
-    choose (ltb (i % 512) 510) (valueAt h rows i) (half i (checksum 255 (λ (p : ℕ). valueAt h rows (512 * (i / 512) + p))))
+    cond (ltb (i % 512) 510) (valueAt h rows i) (half i (checksum 255 (λ (p : ℕ). valueAt h rows (512 * (i / 512) + p))))
 
 abbrev pub sizeOf : Header → ℕ
 sizeOf h = 512 * blocksFor 1 (h .states)
@@ -86,8 +84,8 @@ headerOf image = record {
 
 unfoldable pub entryWord : List ℕ → ℕ → ℕ → ℕ
 entryWord image s a =
-    choose (ltb a (accesses 1)) (twoBytes (at image (position 1 s (2 * a))) (at image (position 1 s (2 * a + 1))))
-    (choose (ltb (a - accesses 1) (upstreamFencesOf image)) (twoBytes 255 (at image (position 1 s (accesses 1 + a)))) 0)
+    cond (ltb a (accesses 1)) (twoBytes (at image (position 1 s (2 * a))) (at image (position 1 s (2 * a + 1))))
+    (cond (ltb (a - accesses 1) (upstreamFencesOf image)) (twoBytes 255 (at image (position 1 s (accesses 1 + a)))) 0)
 
 unfoldable pub rowsOf : List ℕ → List ℕ
 rowsOf image = listed (statesOf image * stride) (λ (j : ℕ). entryWord image (j / stride) (j % stride))
@@ -103,7 +101,7 @@ refusedReading why = record { verdict = Verdict.Refused why; header = noHeader }
 abbrev pub readAs : List ℕ → ℕ → Verdict → Reading
 readAs image room (Verdict.Refused why) = refusedReading why
 readAs image room Verdict.Accepted =
-    choose (leb (statesOf image * stride) room) (record { verdict = Verdict.Accepted; header = headerOf image })
+    cond (leb (statesOf image * stride) room) (record { verdict = Verdict.Accepted; header = headerOf image })
     (refusedReading Refusal.BufferTooSmall)
 
 abbrev pub rowsAs : List ℕ → List ℕ → Verdict → List ℕ

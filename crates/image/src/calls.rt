@@ -1,15 +1,15 @@
 // The call that reads an image and writes it back.
 ghost use mathlib.Core.Path.{_≡_};
 ghost use lib.ListN.{length};
+ghost use Rattle.ground.specs.Bytes.{at};
 ghost use Rattle.answers.specs.Given.{answerOf, bufferOf};
-ghost use Rattle.layout.specs.Layout.{at};
 ghost use Rattle.image.specs.Calls.{writtenBack, headerAs};
 use crate::reader;
 use crate::writer;
 use answers::Answer;
+use answers::Verdict;
 use layout::checksum;
 use layout::verdict;
-use layout::verdict::Verdict;
 
 fn write_back(image: &[u8], out: &mut [u8]) -> Answer
     ensures answer { λ r. ⌜ r ≡ answerOf (writtenBack (now (image .entry))) (length (now (out .entry))) ⌝ }
@@ -22,7 +22,7 @@ fn write_back(image: &[u8], out: &mut [u8]) -> Answer
     match verdict {
         Verdict::Refused(why) => Answer::Refused(why),
         Verdict::Accepted => {
-            let n = checksum::wide(header.states) * 20;
+            let n = ground::wide(header.states) * 20;
             writer::write(header, &rows[..n], out)
         }
     }
@@ -32,7 +32,7 @@ fn write_back(image: &[u8], out: &mut [u8]) -> Answer
 fn number_at(image: &[u8], i: usize) -> u64
     ensures { λ r. ⌜ r ≡ at (now (image .entry)) i ⌝ }
 {
-    verdict::byte_at(image, i) as u64
+    ground::byte_at(image, i) as u64
 }
 
 // Way, states, upstream fences and target fences, of an image that was written back.

@@ -1,6 +1,6 @@
 // A machine with its names, as an image holds it. The rows of its states are lent beside it: a word for each state and letter, twenty to a
 // state, 256 times the fence byte and the next state.
-use layout::verdict::Verdict;
+use answers::Verdict;
 
 // Bytes, so that every header has an image. The names are filled up with zeros.
 pub struct Header {

@@ -1,15 +1,16 @@
 // Reading an image to a machine.
-ghost use mathlib.Core.Path.{_≡_};
 ghost use Prim.Native.Nat.{ℕ, _+_, _*_, _/_, _%_, _<_, _≤_};
+ghost use mathlib.Core.Path.{_≡_};
 ghost use lib.ListN.{length};
-ghost use Rattle.layout.specs.Layout.{at};
-ghost use Rattle.image.specs.Image.{listed, stride, headerOf, entryWord, refusedReading, readAs, rowsAs, readingOf, rowsAfter, Filled};
+ghost use Rattle.ground.specs.Bytes.{at};
+ghost use Rattle.operations.specs.Alphabet.{stride};
+ghost use Rattle.image.specs.Image.{listed, headerOf, entryWord, refusedReading, readAs, rowsAs, readingOf, rowsAfter, Filled};
 use crate::machine::Header;
 use crate::machine::Reading;
 use answers::Refusal;
+use answers::Verdict;
 use layout::places;
 use layout::verdict;
-use layout::verdict::Verdict;
 
 // The word of a state and a letter.
 fn entry_word(image: &[u8], state: u8, letter: usize) -> u16
@@ -18,12 +19,12 @@ fn entry_word(image: &[u8], state: u8, letter: usize) -> u16
 {
     let entry = places::entry_start(state);
     if letter < 4 {
-        let fence = verdict::number_at(image, entry + 2 * letter);
-        let next = verdict::number_at(image, entry + (2 * letter + 1));
+        let fence = ground::number_at(image, entry + 2 * letter);
+        let next = ground::number_at(image, entry + (2 * letter + 1));
         return (256 * fence + next) as u16;
     }
-    if letter - 4 < verdict::number_at(image, 5) {
-        let next = verdict::number_at(image, entry + (4 + letter));
+    if letter - 4 < ground::number_at(image, 5) {
+        let next = ground::number_at(image, entry + (4 + letter));
         return (256 * 255 + next) as u16;
     }
     0
@@ -37,7 +38,7 @@ fn name_at(image: &[u8], from: usize) -> [u8; 16]
     let mut name = [0u8; 16];
     let mut k = 0;
     while k < 16 {
-        name[k] = verdict::byte_at(image, from + k);
+        name[k] = ground::byte_at(image, from + k);
         k += 1;
     }
     name
@@ -47,10 +48,10 @@ fn header(image: &[u8]) -> Header
     ensures { λ r. ⌜ r ≡ headerOf (now (image .entry)) ⌝ }
 {
     Header {
-        way: verdict::byte_at(image, 3),
-        states: verdict::byte_at(image, 4),
-        ups: verdict::byte_at(image, 5),
-        targets: verdict::byte_at(image, 6),
+        way: ground::byte_at(image, 3),
+        states: ground::byte_at(image, 4),
+        ups: ground::byte_at(image, 5),
+        targets: ground::byte_at(image, 6),
         upstream: name_at(image, 7),
         target: name_at(image, 23),
     }
@@ -89,7 +90,7 @@ fn read_accepted(image: &[u8], rows: &mut [u16]) -> Reading
     ensures answer { λ r. ⌜ r ≡ readAs (now (image .entry)) (length (now (rows .entry))) Verdict.Accepted ⌝ }
     ensures buffer { λ _. ⌜ now (rows .exit) ≡ rowsAs (now (image .entry)) (now (rows .entry)) Verdict.Accepted ⌝ }
 {
-    let count = verdict::number_at(image, 4) * 20;
+    let count = ground::number_at(image, 4) * 20;
     if rows.len() < count {
         return refused(Refusal::BufferTooSmall);
     }

@@ -1,6 +1,6 @@
 // Writing a machine's image.
+ghost use Prim.Native.Nat.{_+_, _*_, _/_, _%_, _^_, _<_};
 ghost use mathlib.Core.Path.{_≡_};
-ghost use Prim.Native.Nat.{ℕ, _+_, _*_, _/_, _%_, _^_, _<_, _≤_};
 ghost use lib.ListN.{length};
 ghost use Rattle.answers.specs.Written.{written, writing};
 ghost use Rattle.image.specs.Image.{word, half, used, sizeOf, valueAt, byteAt, imageOf, Front, sealed};
@@ -34,7 +34,7 @@ fn fence_of(h: Header, rows: &[u16], state: usize, letter: usize) -> u8
     requires { ⌜ (state < 2 ^ 32) × (letter < 2 ^ 32) ⌝ }
     ensures { λ r. ⌜ r ≡ used h state (word (now (rows .entry)) state letter / 256) ⌝ }
 {
-    if state < checksum::wide(h.states) {
+    if state < ground::wide(h.states) {
         return (word_at(rows, state, letter) / 256) as u8;
     }
     0
@@ -44,7 +44,7 @@ fn next_of(h: Header, rows: &[u16], state: usize, letter: usize) -> u8
     requires { ⌜ (state < 2 ^ 32) × (letter < 2 ^ 32) ⌝ }
     ensures { λ r. ⌜ r ≡ used h state (word (now (rows .entry)) state letter % 256) ⌝ }
 {
-    if state < checksum::wide(h.states) {
+    if state < ground::wide(h.states) {
         return (word_at(rows, state, letter) % 256) as u8;
     }
     0

@@ -1,7 +1,7 @@
 // How the answers on images are printed.
 ghost use mathlib.Core.Path.{_≡_};
 ghost use lib.ListN.{length};
-use layout::verdict::Verdict;
+use answers::Verdict;
 
 // Room for the longest output and a byte more, of a byte that tells what is kept. The large array stands in a function of its own, so that few
 // proofs hold it.

@@ -3,19 +3,19 @@ use Prim.Native.Nat.{ℕ, _<_, _≤_}
 use mathlib.Core.Path.{_≡_, refl, sym, ap, subst, _∙_}
 use mathlib.Core.List.{List}
 use native.Mathlib.Omega.{arith}
-use lib.ListN.{length, take}
 use borrow.Author.Tests.{lt-ltb, le-ltb, le-leb, lt-leb}
+use lib.ListN.{length, take}
+use Rattle.ground.specs.Bytes.{at}
 use Rattle.answers.specs.Written.{written, writing}
 use Rattle.answers.specs.declared.Refusal.{Refusal}
 use Rattle.answers.specs.declared.Answer.{Answer}
+use Rattle.answers.specs.Given.{refuses, gives}
+use Rattle.answers.proofs.Given.{Answered, answered-same}
+use Rattle.answers.specs.declared.Verdict.{Verdict}
 use Rattle.image_runs.specs.declared.Stop.{Stop}
 use Rattle.image_runs.specs.declared.Progress.{Progress}
 use Rattle.image_runs.specs.declared.Ending.{Ending}
-use Rattle.layout.specs.declared.verdict.Verdict.{Verdict}
-use Rattle.layout.specs.Layout.{at}
 use Rattle.layout.specs.Barred.{verdictOf}
-use Rattle.answers.specs.Given.{refuses, gives}
-use Rattle.answers.proofs.Given.{Answered, answered-same}
 use Rattle.image_runs.specs.Run.{Ran, ended, stopped, ran, refusalOf, outcomeOf, streamLimit, runAs, runOver, Ends}
 
 pub refusal-is : (why is : Stop) (i : ℕ) → why ≡ is → refusalOf is i ≡ refusalOf why i

@@ -4,15 +4,17 @@ use mathlib.Core.Path.{_≡_, sym, ap, ap₂, _∙_}
 use mathlib.Core.List.{List}
 use native.Mathlib.Omega.{arith}
 use borrow.Author.Tests.{lt-ltb, le-ltb, eq-eqb, ne-eqb}
-use Rattle.rule.specs.declared.operation.Kind.{Kind}
-use Rattle.rule.specs.declared.operation.Operation.{Operation}
-use Rattle.rule.specs.declared.operation.Byte.{Byte}
-use Rattle.rule.specs.Operation.{byteIs, fenceByte}
+use Rattle.ground.specs.Bytes.{at}
+use Rattle.operations.specs.Alphabet.{letterOf}
+use Rattle.operations.specs.declared.Kind.{Kind}
+use Rattle.operations.specs.declared.Operation.{Operation}
+use Rattle.operations.specs.declared.Byte.{Byte}
+use Rattle.operations.specs.Operation.{byteIs, fenceByte}
 use Rattle.image_runs.specs.declared.Stop.{Stop}
 use Rattle.image_runs.specs.declared.Move.{Move}
 use Rattle.image_runs.specs.declared.Step.{Step}
-use Rattle.layout.specs.Layout.{at, entryStart, position}
-use Rattle.image_runs.specs.Run.{letterOf, accessStep, stepAs, stepAt, Small}
+use Rattle.layout.specs.Layout.{entryStart, position}
+use Rattle.image_runs.specs.Run.{accessStep, stepAs, stepAt, Small}
 
 module _ (fence next : ℕ) (small : next < 256) where
   pub step-refused : fence ≡ 254 → (Step.Stopped Stop.NoFenceWillDo ≡ accessStep fence next) × Unit {0}

@@ -7,37 +7,31 @@
 -- This says all that a run over an image does, for every image that is accepted.
 use Prim.Native.Nat.{ℕ, _+_, _*_, _<_, _≤_}
 use mathlib.Core.List.{List, [], _∷_, _++_}
-use lib.Dec.{leb, ltb, eqb}
 use mathlib.Core.Path.{_≡_}
+use mathlib.Core.Bool.{cond}
+use lib.Dec.{leb, ltb, eqb}
 use lib.ListN.{length, take}
+use Rattle.ground.specs.Bytes.{at}
 use Rattle.answers.specs.Given.{Given, gives, refuses}
 use Rattle.answers.specs.declared.Refusal.{Refusal}
-use Rattle.tables.specs.Table.{choose}
-use Rattle.rule.specs.declared.operation.Kind.{Kind}
-use Rattle.rule.specs.declared.operation.Operation.{Operation}
-use Rattle.rule.specs.declared.operation.Byte.{Byte}
-use Rattle.rule.specs.Operation.{byteIs, fenceByte}
+use Rattle.answers.specs.declared.Verdict.{Verdict}
+use Rattle.operations.specs.declared.Operation.{Operation}
+use Rattle.operations.specs.declared.Byte.{Byte}
+use Rattle.operations.specs.Operation.{byteIs, fenceByte}
+use Rattle.operations.specs.Alphabet.{letterOf}
 use Rattle.image_runs.specs.declared.Stop.{Stop}
 use Rattle.image_runs.specs.declared.Move.{Move}
 use Rattle.image_runs.specs.declared.Step.{Step}
 use Rattle.image_runs.specs.declared.Progress.{Progress}
 use Rattle.image_runs.specs.declared.Ending.{Ending}
-use Rattle.layout.specs.declared.verdict.Verdict.{Verdict}
-use Rattle.layout.specs.Layout.{accesses, at, position}
+use Rattle.layout.specs.Layout.{accesses, position}
 use Rattle.layout.specs.Barred.{statesOf, upstreamFencesOf, verdictOf}
-
--- the place of an access among the letters
-abbrev pub letterOf : Kind → ℕ
-letterOf Kind.Ld = 0
-letterOf Kind.Cld = 1
-letterOf Kind.St = 2
-letterOf Kind.Cst = 3
 
 -- an access whose entry has this fence byte and this next state
 abbrev pub accessStep : ℕ → ℕ → Step
 accessStep fence next =
-    choose (eqb fence 254) (Step.Stopped Stop.NoFenceWillDo)
-    (Step.Taken (choose (eqb fence 255) (Move.Plain next) (Move.Fenced (fenceByte fence) next)))
+    cond (eqb fence 254) (Step.Stopped Stop.NoFenceWillDo)
+    (Step.Taken (cond (eqb fence 255) (Move.Plain next) (Move.Fenced (fenceByte fence) next)))
 
 -- what a state answers to a byte of the stream
 abbrev pub stepAs : List ℕ → ℕ → Byte → Step
@@ -45,7 +39,7 @@ stepAs image s Byte.Nothing = Step.Stopped Stop.NoOperation
 stepAs image s (Byte.Is (Operation.Access k)) =
     accessStep (at image (position 1 s (2 * letterOf k))) (at image (position 1 s (2 * letterOf k + 1)))
 stepAs image s (Byte.Is (Operation.Fence f)) =
-    choose (ltb f (upstreamFencesOf image)) (Step.Taken (Move.Passed (at image (position 1 s (2 * accesses 1 + f))))) (Step.Stopped Stop.NoSuchFence)
+    cond (ltb f (upstreamFencesOf image)) (Step.Taken (Move.Passed (at image (position 1 s (2 * accesses 1 + f))))) (Step.Stopped Stop.NoSuchFence)
 
 unfoldable pub stepAt : List ℕ → ℕ → ℕ → Step
 stepAt image s b = stepAs image s (byteIs b)
@@ -102,8 +96,8 @@ streamLimit = 4096
 abbrev pub runAs : List ℕ → ℕ → List ℕ → Verdict → Given
 runAs image start stream (Verdict.Refused why) = refuses why
 runAs image start stream Verdict.Accepted =
-    choose (ltb start (statesOf image))
-    (choose (leb (length stream) streamLimit) (outcomeOf (ran image start stream)) (refuses Refusal.OverLimit))
+    cond (ltb start (statesOf image))
+    (cond (leb (length stream) streamLimit) (outcomeOf (ran image start stream)) (refuses Refusal.OverLimit))
     (refuses Refusal.OutOfRange)
 
 -- the run over an image

@@ -1,20 +1,20 @@
 // The run of a stream over an image.
-ghost use mathlib.Core.Path.{_≡_};
 ghost use Prim.Native.Nat.{_+_, _^_, _<_, _≤_};
+ghost use mathlib.Core.Path.{_≡_};
 ghost use lib.ListN.{length};
-ghost use Rattle.rule.specs.declared.operation.Byte.{Byte};
-ghost use Rattle.rule.specs.declared.operation.Operation.{Operation};
 ghost use Rattle.answers.specs.Given.{answerOf, bufferOf};
-ghost use Rattle.image_runs.specs.Run.{letterOf, accessStep, stepAs, stepAt, ran, refusalOf, outcomeOf, runAs, runOver, Small, Put, Ends};
+ghost use Rattle.operations.specs.declared.Byte.{Byte};
+ghost use Rattle.operations.specs.declared.Operation.{Operation};
+ghost use Rattle.image_runs.specs.Run.{accessStep, stepAs, stepAt, ran, refusalOf, outcomeOf, runAs, runOver, Small, Put, Ends};
 use answers::Answer;
 use answers::Refusal;
+use answers::Verdict;
 use layout::places;
 use layout::verdict;
-use layout::verdict::Verdict;
-use rule::operation;
-use rule::operation::Byte;
-use rule::operation::Kind;
-use rule::operation::Operation;
+use operations::Byte;
+use operations::Kind;
+use operations::Operation;
+use operations::alphabet;
 
 // Why a run stops.
 pub enum Stop {
@@ -35,17 +35,6 @@ pub enum Step {
     Stopped(Stop),
 }
 
-fn letter_of(kind: Kind) -> usize
-    ensures { λ r. ⌜ (r ≡ letterOf kind) × (r < 4) ⌝ }
-{
-    match kind {
-        Kind::Ld => 0,
-        Kind::Cld => 1,
-        Kind::St => 2,
-        Kind::Cst => 3,
-    }
-}
-
 // An access whose entry has this fence byte and this next state.
 fn access_step(fence: usize, next: usize) -> Step
     requires { ⌜ next < 256 ⌝ }
@@ -57,16 +46,16 @@ fn access_step(fence: usize, next: usize) -> Step
     if fence == 255 {
         return Step::Taken(Move::Plain(next));
     }
-    Step::Taken(Move::Fenced(operation::byte_of(Operation::Fence(fence)), next))
+    Step::Taken(Move::Fenced(operations::byte_of(Operation::Fence(fence)), next))
 }
 
 fn take_access(image: &[u8], state: usize, kind: Kind) -> Step
     requires { ⌜ state < 256 ⌝ }
     ensures { λ r. ⌜ (r ≡ stepAs (now (image .entry)) state (Byte.Is (Operation.Access kind))) × Small r ⌝ }
 {
-    let at = places::entry_start(state as u8) + 2 * letter_of(kind);
-    let fence = verdict::number_at(image, at);
-    let next = verdict::number_at(image, at + 1);
+    let at = places::entry_start(state as u8) + 2 * alphabet::letter_of(kind);
+    let fence = ground::number_at(image, at);
+    let next = ground::number_at(image, at + 1);
     access_step(fence, next)
 }
 
@@ -74,10 +63,10 @@ fn take_fence(image: &[u8], state: usize, f: usize) -> Step
     requires { ⌜ state < 256 ⌝ }
     ensures { λ r. ⌜ (r ≡ stepAs (now (image .entry)) state (Byte.Is (Operation.Fence f))) × Small r ⌝ }
 {
-    if verdict::number_at(image, 5) <= f {
+    if ground::number_at(image, 5) <= f {
         return Step::Stopped(Stop::NoSuchFence);
     }
-    let next = verdict::number_at(image, places::entry_start(state as u8) + (8 + f));
+    let next = ground::number_at(image, places::entry_start(state as u8) + (8 + f));
     Step::Taken(Move::Passed(next))
 }
 
@@ -95,7 +84,7 @@ fn take_byte(image: &[u8], state: usize, byte: u8) -> Step
     requires { ⌜ state < 256 ⌝ }
     ensures { λ r. ⌜ (r ≡ stepAt (now (image .entry)) state byte) × Small r ⌝ }
 {
-    let read = operation::read_byte(byte);
+    let read = operations::read_byte(byte);
     match read {
         Byte::Is(operation) => take(image, state, operation),
         Byte::Nothing => Step::Stopped(Stop::NoOperation),
@@ -203,7 +192,7 @@ fn run_accepted<'a>(image: &'a [u8], start: u64, stream: &'a [u8], out: &mut [u8
     ensures answer { λ r. ⌜ r ≡ answerOf (runAs (now (image .entry)) start (now (stream .entry)) Verdict.Accepted) (length (now (out .entry))) ⌝ }
     ensures buffer { λ _. ⌜ now (out .exit) ≡ bufferOf (runAs (now (image .entry)) start (now (stream .entry)) Verdict.Accepted) (now (out .entry)) ⌝ }
 {
-    let states = verdict::number_at(image, 4);
+    let states = ground::number_at(image, 4);
     if states as u64 <= start {
         return Answer::Refused(Refusal::OutOfRange);
     }

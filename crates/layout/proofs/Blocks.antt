@@ -1,13 +1,13 @@
 -- Which blocks are wrong. Assumes nothing.
 use Prim.Native.Nat.{ℕ, _+_, _*_, _/_, _<_, _≤_}
-use mathlib.Core.Path.{_≡_, refl, sym, ap, ap₂, _∙_}
-use mathlib.Core.Bool.{Bool, true, false, not}
+use mathlib.Core.Path.{_≡_, sym, ap₂, _∙_}
+use mathlib.Core.Bool.{true, not}
 use mathlib.Core.List.{List}
+use borrow.Author.Tests.{lt-ltb, le-ltb, eq-eqb, ne-eqb}
 use lib.Dec.{eqb}
 use lib.ListN.{length}
-use borrow.Author.Tests.{lt-ltb, le-ltb, eq-eqb, ne-eqb}
+use Rattle.ground.specs.Bytes.{at}
 use Rattle.layout.specs.Checksum.{twoBytes, checksum}
-use Rattle.layout.specs.Layout.{at}
 use Rattle.layout.specs.Barred.{wrong, checkOf, checkIn}
 
 module _ (image : List ℕ) (b : ℕ) where

@@ -1,13 +1,12 @@
 -- Barred bytes of a name, and the numbers that next states stay below. Assumes nothing.
 use Prim.Native.Nat.{ℕ, _+_, _<_, _≤_}
-use mathlib.Core.Path.{_≡_, refl, sym, ap, _∙_}
+use mathlib.Core.Path.{_≡_, sym, ap, _∙_}
 use mathlib.Core.Bool.{Bool, true, false}
 use mathlib.Core.List.{List}
-use native.Mathlib.Omega.{arith}
-use lib.Dec.{leb, ltb, eqb}
 use borrow.Author.Tests.{lt-ltb, le-ltb, le-leb, lt-leb, eq-eqb, ne-eqb}
-use Rattle.layout.specs.Layout.{at}
-use Rattle.layout.specs.Barred.{nameByte, ended, barredName, barredFence, nextBelow}
+use lib.Dec.{leb, ltb, eqb}
+use Rattle.ground.specs.Bytes.{at, nameByte}
+use Rattle.layout.specs.Barred.{ended, barredName, barredFence, nextBelow}
 
 module _ (image : List ℕ) (from k b : ℕ) (byte : b ≡ at image (from + k)) where
   pub name-zero : b ≡ 0 → eqb k 0 ≡ barredName image from k
@@ -34,17 +33,6 @@ module _ (image : List ℕ) (state n : ℕ) (leads : Bool) (states : n ≡ at im
   pub next-zero : state < n → leads ≡ false → 1 ≡ nextBelow image state leads
   unfolding nextBelow
   next-zero h l = rw (← states, lt-ltb _ _ h, l)
-
--- bytes below the digits, and between the digits and the capitals
-pub name-below : (b : ℕ) → b < 48 → false ≡ nameByte b
-unfolding nameByte
-name-below b h =
-    rw (lt-leb 48 b h, lt-leb 65 b (omega arith), lt-leb 97 b (omega arith), ne-eqb b 95 (λ e. omega arith))
-
-pub name-between : (b : ℕ) → 57 < b → b < 65 → false ≡ nameByte b
-unfolding nameByte
-name-between b h l =
-    rw (le-leb 48 b (omega arith), lt-leb b 57 h, lt-leb 65 b l, lt-leb 97 b (omega arith), ne-eqb b 95 (λ e. omega arith))
 
 -- fence bytes
 module _ (image : List ℕ) (state value n : ℕ) (states : n ≡ at image 4) where

@@ -1,16 +1,16 @@
 -- What stands where: from a byte's index to its place, and back. Assumes nothing.
 use Prim.Native.Nat.{ℕ, _+_, _-_, _*_, _/_, _%_, _<_, _≤_}
-use mathlib.Core.Path.{_≡_, refl, sym, ap, ap₂, subst, _∙_}
-use mathlib.Core.Bool.{Bool, true, false}
+use mathlib.Core.Path.{_≡_, refl, sym, ap₂, subst, _∙_}
+use mathlib.Core.Bool.{Bool, true, false, cond}
+use mathlib.Core.List.{List}
 use native.Mathlib.Nat.{mod-lt}
 use native.Mathlib.Omega.{arith}
-use lib.Dec.{ltb, eqb}
 use borrow.Author.Tests.{lt-ltb, le-ltb, eq-eqb, ne-eqb, ltb-true, ltb-false, eqb-true, eqb-false}
-use Rattle.tables.specs.Table.{choose}
+use lib.Dec.{ltb, eqb}
+use Rattle.ground.specs.Bytes.{at}
 use Rattle.layout.specs.declared.places.Place.{Place}
-use mathlib.Core.List.{List}
 use Rattle.layout.specs.Barred.{barredAs, barred}
-use Rattle.layout.specs.Layout.{blocksFor, at, position, headerPlace, entryPlace, contentPlace, standsAt}
+use Rattle.layout.specs.Layout.{blocksFor, position, headerPlace, entryPlace, standsAt}
 
 -- byte i is of this place
 abbrev pub Stands : ℕ → Place → Type 0
@@ -28,7 +28,7 @@ Stands i (Place.FenceNext s f) = (i ≡ position 1 s (8 + f)) × (f < 16)
 Stands i Place.Nothing = (2 ≤ i % 512) × (i % 512 < 510)
 Stands i Place.Check = 510 ≤ i % 512
 
-pub by-test : {A : Type 0} (P : A → Type 0) (t : Bool) (x y : A) → (t ≡ true → P x) → (t ≡ false → P y) → P (choose t x y)
+pub by-test : {A : Type 0} (P : A → Type 0) (t : Bool) (x y : A) → (t ≡ true → P x) → (t ≡ false → P y) → P (cond t x y)
 by-test P true x y f g = f refl
 by-test P false x y f g = g refl
 
@@ -116,7 +116,7 @@ onward-at s f l =
     entry-at s (8 + f) (omega arith) ∙ rw (le-ltb (8 + f) 8 (omega arith), h)
 
 -- what stands behind the five numbers of block 0
-name-at : (i : ℕ) → 7 ≤ i → i < 39 → standsAt 1 i ≡ choose (ltb i 23) (Place.UpstreamName (i - 7)) (choose (ltb i 39) (Place.TargetName (i - 23)) Place.Nothing)
+name-at : (i : ℕ) → 7 ≤ i → i < 39 → standsAt 1 i ≡ cond (ltb i 23) (Place.UpstreamName (i - 7)) (cond (ltb i 39) (Place.TargetName (i - 23)) Place.Nothing)
 unfolding standsAt
 name-at i l u =
     let b : i / 512 ≡ 0 = omega arith in

@@ -5,8 +5,8 @@ use mathlib.Core.List.{List}
 use native.Mathlib.Nat.{add-assoc}
 use native.Mathlib.Numerals.{add-one}
 use native.Mathlib.Omega.{arith}
+use Rattle.ground.specs.Bytes.{at}
 use Rattle.layout.specs.Checksum.{twoBytes, plus, sumOf, wordOf, checksum}
-use Rattle.layout.specs.Layout.{at}
 
 -- one word more, read from a list
 pub sum-more : (bytes : List ℕ) (from k s w s′ : ℕ) → s ≡ sumOf k (wordOf (λ (p : ℕ). at bytes (from + p)))

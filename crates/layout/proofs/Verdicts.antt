@@ -1,14 +1,15 @@
 -- The stages of an image's refusals. Assumes nothing.
 use Prim.Native.Nat.{ℕ, _<_, _≤_}
-use mathlib.Core.Path.{_≡_, refl, sym, ap, ap₂, _∙_}
+use mathlib.Core.Path.{_≡_, sym, ap, _∙_}
 use mathlib.Core.List.{List}
-use lib.ListN.{length}
 use borrow.Author.Tests.{lt-ltb, le-ltb}
+use lib.ListN.{length}
+use Rattle.ground.specs.declared.Found.{Found}
+use Rattle.ground.specs.Lowest.{lowest}
 use Rattle.answers.specs.declared.Refusal.{Refusal}
-use Rattle.layout.specs.declared.verdict.Found.{Found}
-use Rattle.layout.specs.declared.verdict.Verdict.{Verdict}
+use Rattle.answers.specs.declared.Verdict.{Verdict}
 use Rattle.layout.specs.Layout.{limit}
-use Rattle.layout.specs.Barred.{lowest, wrong, barred, blockCount, stages, verdictOf}
+use Rattle.layout.specs.Barred.{wrong, barred, blockCount, stages, verdictOf}
 
 module _ (image : List ℕ) where
   pub over-limit : limit < length image → Verdict.Refused Refusal.OverLimit ≡ verdictOf image

@@ -1,16 +1,18 @@
 -- A zero behind the header is barred in no place, if there is a target fence for a fence byte to name. Assumes nothing.
 use Prim.Native.Nat.{ℕ, _+_, _-_, _<_, _≤_}
 use mathlib.Core.Path.{_≡_, refl, ap, _∙_}
-use mathlib.Core.Bool.{Bool, true, false}
+use mathlib.Core.Bool.{Bool, false}
 use mathlib.Core.List.{List}
 use native.Mathlib.Omega.{arith}
+use borrow.Author.Tests.{lt-leb, ltb-true}
 use lib.Dec.{ltb, leb}
 use lib.ListN.{length}
-use borrow.Author.Tests.{lt-leb, ltb-true}
+use Rattle.ground.proofs.Lowest.{lowest-on, lowest-step}
+use Rattle.ground.specs.Lowest.{lowest}
+use Rattle.ground.specs.Bytes.{at}
 use Rattle.layout.specs.declared.places.Place.{Place}
-use Rattle.layout.specs.Layout.{at, standsAt}
-use Rattle.layout.specs.Barred.{statesOf, targetFencesOf, nextBelow, barredFence, barredAs, lowest, barred, Skips}
-use Rattle.layout.proofs.Lowest.{lowest-step, lowest-on}
+use Rattle.layout.specs.Layout.{standsAt}
+use Rattle.layout.specs.Barred.{statesOf, targetFencesOf, nextBelow, barredFence, barredAs, barred, Skips}
 use Rattle.layout.proofs.Standing.{Stands, stands, by-test}
 
 module _ (image : List ℕ) where

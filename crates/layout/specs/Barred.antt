@@ -4,38 +4,33 @@
 -- "In a name field the barred bytes are a first byte of zero, a nonzero byte that no name may hold, and any byte other than zero after a zero.
 -- The stored check must equal the computed one exactly."
 -- Each byte has its own rule; it may trust bytes 2 to 6, since where one of those is barred it is the lower.
-use Prim.Native.Nat.{ℕ, zero, suc, _+_, _-_, _*_, _/_, _%_, _≤_, max}
+use Prim.Native.Nat.{ℕ, zero, suc, _+_, _-_, _*_, _/_, _≤_, max}
 use mathlib.Core.Path.{_≡_}
-use mathlib.Core.Bool.{Bool, true, false, not}
+use mathlib.Core.Bool.{Bool, true, false, not, cond}
 use mathlib.Core.List.{List}
 use lib.Dec.{leb, ltb, eqb}
 use lib.ListN.{length}
+use Rattle.ground.specs.Lowest.{lowest}
+use Rattle.ground.specs.declared.Found.{Found}
+use Rattle.ground.specs.Bytes.{at, nameByte}
 use Rattle.answers.specs.declared.Refusal.{Refusal}
-use Rattle.tables.specs.Table.{choose}
-use Rattle.rule.specs.Operation.{within}
+use Rattle.answers.specs.declared.Verdict.{Verdict}
 use Rattle.layout.specs.declared.places.Place.{Place}
-use Rattle.layout.specs.declared.verdict.Found.{Found}
-use Rattle.layout.specs.declared.verdict.Verdict.{Verdict}
 use Rattle.layout.specs.Checksum.{twoBytes, checksum}
-use Rattle.layout.specs.Layout.{accesses, blocksFor, limit, at, standsAt}
-
--- the lowest of n numbers, counted from k, at which the test passes
-unfoldable pub lowest : (ℕ → Bool) → ℕ → ℕ → Found
-lowest f k zero = Found.Nowhere
-lowest f k (suc n) = choose (f k) (Found.At k) (lowest f (suc k) n)
+use Rattle.layout.specs.Layout.{blocksFor, limit, standsAt}
 
 -- the check that block b must have; and 0 for one that is not all there
 unfoldable pub checkOf : List ℕ → ℕ → ℕ
 checkOf image b = checksum 255 (λ (p : ℕ). at image (512 * b + p))
 
 unfoldable pub checkIn : List ℕ → ℕ → ℕ
-checkIn image b = choose (ltb b (length image / 512)) (checkOf image b) 0
+checkIn image b = cond (ltb b (length image / 512)) (checkOf image b) 0
 
 -- block b is broken off, or has a wrong number or a wrong check
 unfoldable pub wrong : List ℕ → ℕ → Bool
 wrong image b =
-    choose (ltb (length image) (512 * b + 512)) true
-    (choose (eqb (twoBytes (at image (512 * b)) (at image (512 * b + 1))) b)
+    cond (ltb (length image) (512 * b + 512)) true
+    (cond (eqb (twoBytes (at image (512 * b)) (at image (512 * b + 1))) b)
     (not (eqb (twoBytes (at image (512 * b + 510)) (at image (512 * b + 510 + 1))) (checkOf image b)))
     true)
 
@@ -43,22 +38,14 @@ wrong image b =
 abbrev pub blockCount : List ℕ → ℕ
 blockCount image = max 1 ((length image + 511) / 512)
 
--- "ASCII letters, digits or underscores"
-unfoldable pub nameByte : ℕ → Bool
-nameByte b =
-    choose (within 48 57 b) true
-    (choose (within 65 90 b) true
-    (choose (within 97 122 b) true
-    (eqb b 95)))
-
 -- a zero stands among the first k bytes of the name at a place
 unfoldable pub ended : List ℕ → ℕ → ℕ → Bool
 ended image from zero = false
-ended image from (suc k) = choose (eqb (at image (from + k)) 0) true (ended image from k)
+ended image from (suc k) = cond (eqb (at image (from + k)) 0) true (ended image from k)
 
 unfoldable pub barredName : List ℕ → ℕ → ℕ → Bool
 barredName image from k =
-    choose (eqb (at image (from + k)) 0) (eqb k 0) (choose (nameByte (at image (from + k))) (ended image from k) true)
+    cond (eqb (at image (from + k)) 0) (eqb k 0) (cond (nameByte (at image (from + k))) (ended image from k) true)
 
 -- the numbers that the header gives
 abbrev pub statesOf : List ℕ → ℕ
@@ -72,16 +59,16 @@ targetFencesOf image = at image 6
 
 -- the number that the next state must stay below: the states, and 1 where nothing but zero may stand
 unfoldable pub nextBelow : List ℕ → ℕ → Bool → ℕ
-nextBelow image state leads = choose (ltb state (statesOf image)) (choose leads (statesOf image) 1) 1
+nextBelow image state leads = cond (ltb state (statesOf image)) (cond leads (statesOf image) 1) 1
 
 -- "the states (1 to 255)", and so many blocks as they want
 unfoldable pub wrongCount : List ℕ → ℕ → Bool
-wrongCount image states = choose (eqb states 0) true (not (eqb (length image) (512 * blocksFor 1 states)))
+wrongCount image states = cond (eqb states 0) true (not (eqb (length image) (512 * blocksFor 1 states)))
 
 -- "a fence byte (a number, FF none, FE refused)": a number names a target fence
 unfoldable pub barredFence : List ℕ → ℕ → ℕ → Bool
 barredFence image state value =
-    choose (ltb state (statesOf image)) (choose (leb (targetFencesOf image) value) (ltb value 254) false) (leb 1 value)
+    cond (ltb state (statesOf image)) (cond (leb (targetFencesOf image) value) (ltb value 254) false) (leb 1 value)
 
 -- value v of byte i is barred, by what stands there
 abbrev pub barredAs : List ℕ → ℕ → ℕ → Place → Bool
@@ -115,5 +102,5 @@ stages Found.Nowhere Found.Nowhere = Verdict.Accepted
 
 unfoldable pub verdictOf : List ℕ → Verdict
 verdictOf image =
-    choose (ltb limit (length image)) (Verdict.Refused Refusal.OverLimit)
+    cond (ltb limit (length image)) (Verdict.Refused Refusal.OverLimit)
     (stages (lowest (wrong image) 0 (blockCount image)) (lowest (barred image) 0 (length image)))

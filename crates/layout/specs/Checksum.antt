@@ -2,15 +2,15 @@
 -- RFC 1071: the checksum of words of sixteen bits is the one's complement of their one's complement sum; in such a sum what is carried out
 -- at the top comes back in at the bottom.
 use Prim.Native.Nat.{ℕ, zero, suc, _+_, _-_, _*_}
+use mathlib.Core.Bool.{cond}
 use lib.Dec.{ltb}
-use Rattle.tables.specs.Table.{choose}
 
 abbrev pub twoBytes : ℕ → ℕ → ℕ
 twoBytes high low = 256 * high + low
 
 -- the one's complement sum of two words
 abbrev pub plus : ℕ → ℕ → ℕ
-plus a b = choose (ltb (a + b) 65536) (a + b) (a + b - 65535)
+plus a b = cond (ltb (a + b) 65536) (a + b) (a + b - 65535)
 
 -- of the first n words
 unfoldable pub sumOf : ℕ → (ℕ → ℕ) → ℕ

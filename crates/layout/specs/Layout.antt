@@ -7,11 +7,8 @@
 -- What stands at each byte of an image is one definition, `standsAt`; what may stand there (Barred), what is written there and what is read
 -- from there (Image) go by its cases.
 use Prim.Native.Nat.{ℕ, _+_, _-_, _*_, _/_, _%_}
-use mathlib.Core.Bool.{Bool, true, false}
-use mathlib.Core.List.{List}
+use mathlib.Core.Bool.{cond}
 use lib.Dec.{ltb, eqb}
-use lib.ListN.{getD}
-use Rattle.tables.specs.Table.{choose}
 use Rattle.layout.specs.declared.places.Place.{Place}
 
 -- how many accesses have a fence byte in an entry; the size of a state's entry; how many states a block holds; how many blocks an image has
@@ -31,40 +28,36 @@ blocksFor form states = 1 + (states + (statesToABlock form - 1)) / statesToABloc
 abbrev pub limit : ℕ
 limit = 512 * blocksFor 1 255
 
--- the byte at a place, 0 past the end
-abbrev pub at : List ℕ → ℕ → ℕ
-at image i = getD image i 0
-
 -- byte p of block 0
 abbrev pub headerPlace : ℕ → Place
 headerPlace p =
-    choose (ltb p 3) Place.Form
-    (choose (ltb p 4) Place.Way
-    (choose (ltb p 5) Place.States
-    (choose (ltb p 6) Place.UpstreamFences
-    (choose (ltb p 7) Place.TargetFences
-    (choose (ltb p 23) (Place.UpstreamName (p - 7))
-    (choose (ltb p 39) (Place.TargetName (p - 23))
+    cond (ltb p 3) Place.Form
+    (cond (ltb p 4) Place.Way
+    (cond (ltb p 5) Place.States
+    (cond (ltb p 6) Place.UpstreamFences
+    (cond (ltb p 7) Place.TargetFences
+    (cond (ltb p 23) (Place.UpstreamName (p - 7))
+    (cond (ltb p 39) (Place.TargetName (p - 23))
     Place.Nothing))))))
 
 -- byte o of a state's entry
 abbrev pub entryPlace : ℕ → ℕ → ℕ → Place
 entryPlace form state o =
-    choose (ltb o (2 * accesses form))
-    (choose (eqb (o % 2) 0) (Place.Fence state (o / 2)) (Place.Next state (o / 2)))
+    cond (ltb o (2 * accesses form))
+    (cond (eqb (o % 2) 0) (Place.Fence state (o / 2)) (Place.Next state (o / 2)))
     (Place.FenceNext state (o - 2 * accesses form))
 
 -- byte p of block b, among its contents and in the whole block
 abbrev pub contentPlace : ℕ → ℕ → ℕ → Place
 contentPlace form b p =
-    choose (eqb b 0) (headerPlace p)
+    cond (eqb b 0) (headerPlace p)
     (entryPlace form ((b - 1) * statesToABlock form + (p - 2) / entrySize form) ((p - 2) % entrySize form))
 
 abbrev pub blockPlace : ℕ → ℕ → ℕ → Place
 blockPlace form b p =
-    choose (ltb p 2) Place.Number
-    (choose (ltb p 506) (contentPlace form b p)
-    (choose (ltb p 510) Place.Nothing
+    cond (ltb p 2) Place.Number
+    (cond (ltb p 506) (contentPlace form b p)
+    (cond (ltb p 510) Place.Nothing
     Place.Check))
 
 unfoldable pub standsAt : ℕ → ℕ → Place

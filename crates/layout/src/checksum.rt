@@ -1,24 +1,17 @@
 // The Internet checksum (RFC 1071) of a block.
-ghost use mathlib.Core.Path.{_≡_};
 ghost use Prim.Native.Nat.{ℕ, _+_, _-_, _*_, _<_, _≤_};
+ghost use mathlib.Core.Path.{_≡_};
 ghost use lib.ListN.{length};
+ghost use Rattle.ground.specs.Bytes.{at};
 ghost use Rattle.layout.specs.Checksum.{twoBytes, plus, checksum};
-ghost use Rattle.layout.specs.Layout.{at};
 ghost use Rattle.layout.specs.Barred.{checkIn};
-
-// A byte among numbers.
-pub fn wide(byte: u8) -> usize
-    ensures { λ r. ⌜ (r ≡ byte) × (r < 256) ⌝ }
-{
-    byte as usize
-}
 
 // Bytes `from` and `from` + 1 as one number.
 pub(crate) fn two_bytes(bytes: &[u8], from: usize) -> usize
     requires { ⌜ from + 1 < length (now bytes) ⌝ }
     ensures { λ r. ⌜ (r ≡ twoBytes (at (now (bytes .entry)) from) (at (now (bytes .entry)) (from + 1))) × (r < 65536) ⌝ }
 {
-    256 * wide(bytes[from]) + wide(bytes[from + 1])
+    256 * ground::wide(bytes[from]) + ground::wide(bytes[from + 1])
 }
 
 // Their one's complement sum.

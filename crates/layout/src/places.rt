@@ -1,6 +1,6 @@
 // What stands at each byte of an image.
-ghost use mathlib.Core.Path.{_≡_};
 ghost use Prim.Native.Nat.{_^_, _<_, _≤_};
+ghost use mathlib.Core.Path.{_≡_};
 ghost use Rattle.layout.specs.Layout.{limit, blocksFor, headerPlace, entryPlace, contentPlace, standsAt, entryStart};
 
 // A name's byte is counted from the name's first; an access or an upstream fence is its number.

@@ -1,65 +1,21 @@
 // What is wrong with an image, and where.
+ghost use Prim.Native.Nat.{_-_, _^_, _<_, _≤_};
 ghost use mathlib.Core.Path.{_≡_};
 ghost use mathlib.Core.Bool.{not};
 ghost use lib.Dec.{leb, ltb, eqb};
-ghost use Prim.Native.Nat.{_-_, _^_, _<_, _≤_};
 ghost use lib.ListN.{length};
-ghost use Rattle.layout.specs.Layout.{limit, at};
-ghost use Rattle.layout.specs.Barred.{lowest, wrong, blockCount, nameByte, ended, wrongCount, targetFencesOf, barredName, barredFence, nextBelow, barred, Skips, stages, verdictOf};
+ghost use Rattle.ground.specs.Lowest.{lowest};
+ghost use Rattle.ground.specs.Bytes.{at};
+ghost use Rattle.layout.specs.Layout.{limit};
+ghost use Rattle.layout.specs.Barred.{wrong, blockCount, ended, wrongCount, targetFencesOf, barredName, barredFence, nextBelow, barred, Skips, stages, verdictOf};
 use crate::checksum;
 use crate::places;
 use crate::places::Place;
 use answers::Refusal;
+use answers::Verdict;
+use ground::Found;
 
 const LIMIT: usize = 7168;
-
-pub enum Verdict {
-    Accepted,
-    Refused(Refusal),
-}
-
-// The first of some places.
-pub enum Found {
-    At(usize),
-    Nowhere,
-}
-
-// The byte at a place, 0 past the end.
-pub fn byte_at(image: &[u8], i: usize) -> u8
-    ensures { λ r. ⌜ r ≡ at (now (image .entry)) i ⌝ }
-{
-    if i < image.len() { image[i] } else { 0 }
-}
-
-pub fn number_at(image: &[u8], i: usize) -> usize
-    ensures { λ r. ⌜ (r ≡ at (now (image .entry)) i) × (r < 256) ⌝ }
-{
-    checksum::wide(byte_at(image, i))
-}
-
-fn is_name_byte(byte: u8) -> bool
-    ensures { λ r. ⌜ r ≡ nameByte byte ⌝ }
-{
-    if byte < b'0' {
-        return false;
-    }
-    if byte <= b'9' {
-        return true;
-    }
-    if byte < b'A' {
-        return false;
-    }
-    if byte <= b'Z' {
-        return true;
-    }
-    if byte < b'a' {
-        return byte == b'_';
-    }
-    if byte <= b'z' {
-        return true;
-    }
-    false
-}
 
 // Whether a zero stands among the first k bytes of the name.
 fn has_ended(image: &[u8], from: usize, k: usize) -> bool
@@ -68,7 +24,7 @@ fn has_ended(image: &[u8], from: usize, k: usize) -> bool
 {
     let mut j = k;
     while 0 < j {
-        if byte_at(image, from + (j - 1)) == 0 {
+        if ground::byte_at(image, from + (j - 1)) == 0 {
             return true;
         }
         j -= 1;
@@ -80,11 +36,11 @@ fn is_barred_name(image: &[u8], from: usize, k: usize) -> bool
     requires { ⌜ (from < 64) × (k < 64) ⌝ }
     ensures { λ r. ⌜ r ≡ barredName (now (image .entry)) from k ⌝ }
 {
-    let byte = byte_at(image, from + k);
+    let byte = ground::byte_at(image, from + k);
     if byte == 0 {
         return k == 0;
     }
-    if is_name_byte(byte) {
+    if ground::is_name_byte(byte) {
         return has_ended(image, from, k);
     }
     true
@@ -94,7 +50,7 @@ fn is_barred_name(image: &[u8], from: usize, k: usize) -> bool
 fn next_below(image: &[u8], state: usize, leads: bool) -> usize
     ensures { λ r. ⌜ (r ≡ nextBelow (now (image .entry)) state leads) × (r < 256) ⌝ }
 {
-    let states = number_at(image, 4);
+    let states = ground::number_at(image, 4);
     if states <= state {
         return 1;
     }
@@ -155,10 +111,10 @@ fn is_wrong_count(image: &[u8], states: usize) -> bool
 fn is_barred_fence(image: &[u8], state: usize, value: usize) -> bool
     ensures { λ r. ⌜ r ≡ barredFence (now (image .entry)) state value ⌝ }
 {
-    if number_at(image, 4) <= state {
+    if ground::number_at(image, 4) <= state {
         return 1 <= value;
     }
-    if number_at(image, 6) <= value {
+    if ground::number_at(image, 6) <= value {
         return value < 254;
     }
     false
@@ -168,7 +124,7 @@ fn is_barred_next(image: &[u8], i: usize, value: usize, state: usize) -> bool
     requires { ⌜ 0 < i ⌝ }
     ensures { λ r. ⌜ r ≡ leb (nextBelow (now (image .entry)) state (not (eqb (at (now (image .entry)) (i - 1)) 254))) value ⌝ }
 {
-    let leads = number_at(image, i - 1) != 254;
+    let leads = ground::number_at(image, i - 1) != 254;
     let bound = next_below(image, state, leads);
     bound <= value
 }
@@ -176,7 +132,7 @@ fn is_barred_next(image: &[u8], i: usize, value: usize, state: usize) -> bool
 fn is_barred_fence_next(image: &[u8], value: usize, state: usize, f: usize) -> bool
     ensures { λ r. ⌜ r ≡ leb (nextBelow (now (image .entry)) state (ltb f (at (now (image .entry)) 5))) value ⌝ }
 {
-    let leads = f < number_at(image, 5);
+    let leads = f < ground::number_at(image, 5);
     let limit = next_below(image, state, leads);
     limit <= value
 }
@@ -184,7 +140,7 @@ fn is_barred_fence_next(image: &[u8], value: usize, state: usize, f: usize) -> b
 fn is_barred(image: &[u8], i: usize) -> bool
     ensures { λ r. ⌜ r ≡ barred (now (image .entry)) i ⌝ }
 {
-    let value = number_at(image, i);
+    let value = ground::number_at(image, i);
     let place = places::stands_at(i);
     match place {
         Place::Number => false,
@@ -235,7 +191,7 @@ fn next_to_examine(image: &[u8], targets: usize, from: usize) -> usize
 fn lowest_barred(image: &[u8]) -> Found
     ensures { λ r. ⌜ r ≡ lowest (barred (now (image .entry))) 0 (length (now (image .entry))) ⌝ }
 {
-    let targets = number_at(image, 6);
+    let targets = ground::number_at(image, 6);
     let mut i = 0;
     while i < image.len() {
         if is_barred(image, i) {

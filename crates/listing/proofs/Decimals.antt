@@ -1,14 +1,13 @@
 -- Laws of numbers in decimal. Assumes nothing.
 use Prim.Native.Nat.{ℕ, zero, suc, _+_, _*_, _/_, _%_, _^_, _≤_, _<_}
-use mathlib.Core.Path.{_≡_, refl, sym, ap, subst, _∙_}
-use mathlib.Core.Bool.{Bool, true, false}
-use mathlib.Core.List.{List, [], _∷_, _++_}
+use mathlib.Core.Path.{_≡_, refl, ap, _∙_}
+use mathlib.Core.Bool.{Bool, true, false, cond}
+use mathlib.Core.List.{List, [], _++_}
 use native.Mathlib.Omega.{arith}
 use native.Mathlib.Nat.{pow-suc}
 use borrow.Author.Tests.{lt-ltb, le-ltb, ltb-true, ltb-false}
 use lib.Dec.{ltb}
 use lib.ListN.{length, length-append}
-use Rattle.tables.specs.Table.{choose}
 use Rattle.writing.specs.Writing.{Put}
 use Rattle.writing.proofs.Putting.{nothing-put}
 use Rattle.listing.specs.Decimal.{digit, digits, decimal}
@@ -22,7 +21,7 @@ enough (suc k) zero n hk hj = rw (lt-ltb n 10 (omega arith))
 enough (suc k) (suc j) n hk hj = by (ltb n 10) refl (enough k j (n / 10))
   where
     by : (q : Bool) → ltb n 10 ≡ q → (n / 10 ≤ k → n / 10 ≤ j → digits (suc k) (n / 10) ≡ digits (suc j) (n / 10))
-        → choose q (digit n) (digits (suc k) (n / 10) ++ digit (n % 10)) ≡ choose q (digit n) (digits (suc j) (n / 10) ++ digit (n % 10))
+        → cond q (digit n) (digits (suc k) (n / 10) ++ digit (n % 10)) ≡ cond q (digit n) (digits (suc j) (n / 10) ++ digit (n % 10))
     by true e rest = refl
     by false e rest =
         let l : 10 ≤ n = ltb-false n 10 e in

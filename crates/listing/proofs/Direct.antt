@@ -1,32 +1,29 @@
 -- What is known of a direct run that a listing takes up: its output fits twice the stream, and both texts were accepted. Assumes nothing.
-use Prim.Native.Nat.{ℕ, suc, _+_, _*_, _≤_, _<_}
+use Prim.Native.Nat.{ℕ, suc, _+_, _*_, _≤_}
 use mathlib.Core.Path.{_≡_, refl, sym, ap, subst, _∙_}
-use mathlib.Core.Bool.{Bool, true, false}
+use mathlib.Core.Bool.{Bool, true, false, cond}
 use mathlib.Core.List.{List, [], _∷_, _++_}
 use native.Mathlib.Omega.{arith}
 use borrow.Author.Tests.{ltb-false}
 use lib.Dec.{ltb}
 use lib.ListN.{length, take, drop, length-append}
 use lib.Seq.{take-append-seam}
-use Rattle.tables.specs.Table.{choose}
+use Rattle.ground.proofs.Truths.{differ}
 use Rattle.answers.specs.declared.Refusal.{Refusal}
 use Rattle.answers.specs.declared.Answer.{Answer}
-use Rattle.answers.specs.Written.{written, writing}
 use Rattle.answers.proofs.Laws.{written-fits, writing-fits}
+use Rattle.answers.specs.declared.Verdict.{Verdict}
+use Rattle.operations.specs.Operation.{fenceByte}
 use Rattle.rule.specs.declared.situation.Situation.{Situation}
 use Rattle.rule.specs.declared.way.Way.{Way}
 use Rattle.rule.specs.Rule.{wayNumber}
-use Rattle.rule.specs.Operation.{fenceByte}
 use Rattle.rule.specs.Pairs.{Model}
 use Rattle.rule.specs.Situation.{fresh}
-use Rattle.rule.proofs.Choices.{differ}
-use Rattle.models.specs.declared.model.Verdict.{Verdict}
 use Rattle.models.specs.Reading.{reading}
-use Rattle.runs.specs.declared.WayRead.{WayRead}
 use Rattle.runs.specs.declared.Move.{Move}
 use Rattle.runs.specs.Bytes.{Outcome, put, refuse, direct, fenceBytes}
 use Rattle.runs.specs.Call as call
-use Rattle.runs.specs.Call.{wayOf, modelOf, onVerdict, onStream, onto, under, outcome}
+use Rattle.runs.specs.Call.{modelOf, onVerdict, onStream, onto, under, outcome}
 use Rattle.runs.specs.Moves.{ahead, movesOn, moves, moved}
 use Rattle.runs.proofs.ByMoves.{direct-moves}
 
@@ -60,7 +57,7 @@ module _ (way : Way) where
   stream-short : (up target : Model) (stream : List ℕ) → Short 8192 (onStream stream (direct way up target stream))
   stream-short up target stream = by (ltb 4096 (length stream)) refl
     where
-      by : (q : Bool) → ltb 4096 (length stream) ≡ q → Short 8192 (choose q (refuse Refusal.OverLimit) (direct way up target stream))
+      by : (q : Bool) → ltb 4096 (length stream) ≡ q → Short 8192 (cond q (refuse Refusal.OverLimit) (direct way up target stream))
       by true e = tt
       by false e =
           let l : length stream ≤ 4096 = ltb-false 4096 (length stream) e in

@@ -1,21 +1,19 @@
 -- What stands after the two texts. Assumes nothing.
-use Prim.Native.Nat.{ℕ, suc, _+_, _-_, _≤_, _<_}
+use Prim.Native.Nat.{ℕ, _+_, _-_, _<_}
 use mathlib.Core.Path.{_≡_, refl, sym, ap, ap₂, subst, _∙_}
-use mathlib.Core.Bool.{Bool, true, false, _&&_}
+use mathlib.Core.Bool.{Bool, true, false, _&&_, cond}
 use mathlib.Core.List.{List, [], _∷_}
-use mathlib.Core.Option.{Option, none, some}
+use mathlib.Core.Option.{none, some}
 use native.Mathlib.Omega.{arith}
 use borrow.Author.Tests.{leb-true}
 use lib.Dec.{eqb, leb}
 use lib.ListN.{length, getD, take, drop, length-drop, drop-of-length-le}
 use lib.Seq.{take-all, drop-drop}
-use Rattle.tables.specs.Table.{choose}
+use Rattle.ground.proofs.Truths.{differ}
+use Rattle.ground.specs.Bytes.{bytes, sameBytes}
 use Rattle.rule.specs.declared.way.Way.{Way}
-use Rattle.rule.proofs.Choices.{differ}
-use Rattle.models.specs.Bytes.{bytes}
-use Rattle.models.specs.Reading.{sameBytes}
 use Rattle.runs.specs.declared.WayRead.{WayRead}
-use Rattle.listing.specs.Shape.{onto, lines, wayIn, isRun, streamOf, Ending, endingFrom, endingOf}
+use Rattle.listing.specs.Shape.{onto, lines, wayIn, isRun, streamOf, endingFrom, endingOf}
 use Rattle.listing.specs.Finding.{LineOf, RunOf, OnlyRun, EndingOf}
 use Rattle.listing.proofs.Lines.{never-ending, part-rest}
 
@@ -42,7 +40,7 @@ unfolding lines
 some-line [] l = absurd (omega arith)
 some-line (b ∷ t) l = by (eqb b 10)
   where
-    by : (q : Bool) → (x : List ℕ) × (xs : List (List ℕ)) × (choose q ((b ∷ []) ∷ lines t) (onto b (lines t)) ≡ x ∷ xs)
+    by : (q : Bool) → (x : List ℕ) × (xs : List (List ℕ)) × (cond q ((b ∷ []) ∷ lines t) (onto b (lines t)) ≡ x ∷ xs)
     by true = (b ∷ [], lines t, refl)
     by false = onto-some b (lines t)
 
@@ -84,7 +82,7 @@ module _ {t : List ℕ} {n : ℕ} (line : LineOf t n) where
         whole =
             ap endingOf (line .first ∙ ap (λ (x : List (List ℕ)). take n t ∷ x) (r .only))
             ∙ ap (λ (w : WayRead). endingFrom w (drop n t)) (sym e)
-            ∙ ap (λ (q : Bool). choose q (some (record { way = way; stream = streamOf (drop n t) })) none) (r .run)
+            ∙ ap (λ (q : Bool). cond q (some (record { way = way; stream = streamOf (drop n t) })) none) (r .run)
             ∙ ap₂ (λ (m : ℕ) (s : List ℕ). some (record { way = way; stream = take m s })) k (drop-drop 4 n t);
       }
 

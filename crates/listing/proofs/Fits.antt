@@ -1,16 +1,16 @@
 -- What a call says that it has written is within its buffer: a program's proof cites this. Assumes nothing.
 use Prim.Native.Nat.{ℕ, _≤_}
-use mathlib.Core.Path.{_≡_, refl, _∙_}
+use mathlib.Core.Path.{_≡_, refl}
 use mathlib.Core.Bool.{Bool, true, false, cond}
 use mathlib.Core.List.{List}
 use native.Mathlib.Omega.{arith}
 use borrow.Author.Tests.{leb-true}
 use lib.Dec.{leb}
 use lib.ListN.{length}
+use Rattle.ground.proofs.Truths.{differ}
 use Rattle.answers.specs.declared.Refusal.{Refusal}
 use Rattle.answers.specs.declared.Answer.{Answer}
 use Rattle.answers.specs.Written.{writing}
-use Rattle.rule.proofs.Choices.{differ}
 use Rattle.answers.specs.Given.{Given, gives, refuses, answerOf, Answers}
 
 pub writing-within : (text : List ℕ) (f z room : ℕ) {w g s : ℕ} → Answer.Done w g s ≡ writing text f z room → w ≤ room

@@ -1,44 +1,21 @@
 -- Laws of lines, and of the texts among them. Assumes nothing.
 use Prim.Native.Nat.{ℕ, zero, suc, _+_, _-_, _≤_, _<_}
 use mathlib.Core.Path.{_≡_, refl, sym, ap, ap₂, subst, _∙_}
-use mathlib.Core.Bool.{Bool, true, false, _&&_}
+use mathlib.Core.Bool.{Bool, true, false, _&&_, cond}
 use mathlib.Core.List.{List, [], _∷_, _++_, append-assoc}
 use mathlib.Core.Option.{Option, none, some}
 use native.Mathlib.Omega.{arith}
 use native.Mathlib.Nat.{le-of-suc-le-suc}
-use native.Mathlib.Numerals.{add-one}
-use borrow.Author.Tests.{eqb-true, eqb-false, eq-eqb, ne-eqb}
+use borrow.Author.Tests.{eq-eqb, ne-eqb}
 use lib.Dec.{eqb, leb}
 use lib.ListN.{length, getD, take, drop, length-drop}
 use lib.Seq.{take-all, take-add, drop-drop}
 use Rattle.bytes.specs.Bytes.{indexOf, indexAfter}
-use Rattle.tables.specs.Table.{choose}
-use Rattle.rule.proofs.Choices.{differ}
-use Rattle.models.specs.Bytes.{bytes}
-use Rattle.models.specs.Reading.{sameBytes}
+use Rattle.ground.proofs.Sameness.{same-is}
+use Rattle.ground.specs.Bytes.{bytes, sameBytes}
 use Rattle.runs.specs.declared.WayRead.{WayRead}
-use Rattle.listing.specs.declared.shape.Found.{Found}
-use Rattle.listing.specs.declared.shape.Looked.{Looked}
 use Rattle.listing.specs.Shape.{onto, lines, Cut, behind, through, wayIn, isRun, endingFrom, endingOf}
 use Rattle.listing.specs.Finding.{LineOf, NoLine, TextOf, GoesOn}
-
--- bytes that are compared equal are equal
-pub same-is : (a b : List ℕ) → sameBytes a b ≡ true → a ≡ b
-same-is [] [] e = refl
-same-is [] (y ∷ b) e = differ (cc)
-same-is (x ∷ a) [] e = differ (cc)
-same-is (x ∷ a) (y ∷ b) e = by (eqb x y) refl e (same-is a b)
-  where
-    by : (q : Bool) → eqb x y ≡ q → q && sameBytes a b ≡ true → (sameBytes a b ≡ true → a ≡ b) → x ∷ a ≡ y ∷ b
-    by true h e rest = ap₂ (λ (z : ℕ) (l : List ℕ). z ∷ l) (eqb-true x y h) (rest e)
-    by false h e rest = differ (cc)
-
-pub lengths-differ : (a b : List ℕ) → (length a ≡ length b → ⊥) → sameBytes a b ≡ false
-lengths-differ a b h = by (sameBytes a b) refl
-  where
-    by : (q : Bool) → sameBytes a b ≡ q → q ≡ false
-    by true e = absurd (h (ap length (same-is a b e)))
-    by false e = refl
 
 -- a line up to its first line feed
 first-line : (l : List ℕ) → indexOf 10 l < length l → lines l ≡ take (suc (indexOf 10 l)) l ∷ lines (drop (suc (indexOf 10 l)) l)
@@ -48,7 +25,7 @@ first-line (b ∷ l) h = by (eqb b 10) h (first-line l)
   where
     by : (q : Bool) → indexAfter q (indexOf 10 l) < length (b ∷ l)
         → (indexOf 10 l < length l → lines l ≡ take (suc (indexOf 10 l)) l ∷ lines (drop (suc (indexOf 10 l)) l))
-        → choose q ((b ∷ []) ∷ lines l) (onto b (lines l))
+        → cond q ((b ∷ []) ∷ lines l) (onto b (lines l))
         ≡ take (suc (indexAfter q (indexOf 10 l))) (b ∷ l) ∷ lines (drop (suc (indexAfter q (indexOf 10 l))) (b ∷ l))
     by true h rest = refl
     by false h rest = ap (onto b) (rest (le-of-suc-le-suc h))
@@ -68,7 +45,7 @@ only-line [] h = refl
 only-line (b ∷ l) h = by (eqb b 10) h (only-line l)
   where
     by : (q : Bool) → suc (length l) ≤ indexAfter q (indexOf 10 l) → (length l ≤ indexOf 10 l → lines l ≡ whole l)
-        → choose q ((b ∷ []) ∷ lines l) (onto b (lines l)) ≡ (b ∷ l) ∷ []
+        → cond q ((b ∷ []) ∷ lines l) (onto b (lines l)) ≡ (b ∷ l) ∷ []
     by true h rest = absurd (omega arith)
     by false h rest = ap (onto b) (rest (le-of-suc-le-suc h)) ∙ onto-whole b l
 
@@ -146,11 +123,11 @@ line-endless t n e h =
 -- what a line with its line feed says of the text that it begins
 module _ {t : List ℕ} {n : ℕ} (line : LineOf t n) where
   by-line : (q : Bool) → sameBytes (take n t) (bytes "end\n") ≡ q
-      → through (lines t) ≡ choose q (some (record { text = take n t; rest = lines (drop n t) })) (behind (take n t) (through (lines (drop n t))))
+      → through (lines t) ≡ cond q (some (record { text = take n t; rest = lines (drop n t) })) (behind (take n t) (through (lines (drop n t))))
   unfolding through
   by-line q e =
       ap through (line .first)
-      ∙ ap (λ (q : Bool). choose q (some (record { text = take n t; rest = lines (drop n t) })) (behind (take n t) (through (lines (drop n t))))) e
+      ∙ ap (λ (q : Bool). cond q (some (record { text = take n t; rest = lines (drop n t) })) (behind (take n t) (through (lines (drop n t))))) e
 
   pub line-last : sameBytes (take n t) (bytes "end\n") ≡ true → TextOf t n
   line-last e = record { inside = line .inside; whole = by-line true e }

@@ -1,16 +1,16 @@
 -- What is listed once the machine is made. Assumes nothing.
-use Prim.Native.Nat.{ℕ, _+_, _*_, _≤_, _<_}
+use Prim.Native.Nat.{ℕ, _+_, _≤_}
 use mathlib.Core.Path.{_≡_, sym, ap, ap₂, subst, subst₂, _∙_}
 use mathlib.Core.List.{List, [], _∷_}
 use native.Mathlib.Omega.{arith}
-use lib.ListN.{length, take, length-take}
+use lib.ListN.{length, take}
 use lib.Seq.{length-take-le}
-use Rattle.rule.specs.declared.operation.Operation.{Operation}
-use Rattle.rule.specs.declared.operation.Byte.{Byte}
-use Rattle.rule.specs.Operation.{byteIs}
+use Rattle.answers.specs.Given.{gives}
+use Rattle.operations.specs.declared.Operation.{Operation}
+use Rattle.operations.specs.declared.Byte.{Byte}
+use Rattle.operations.specs.Operation.{byteIs}
 use Rattle.rule.specs.declared.way.Way.{Way}
 use Rattle.models.specs.declared.model.Model.{Model}
-use Rattle.models.specs.declared.model.Verdict.{Verdict}
 use Rattle.models.specs.declared.model.Reading.{Reading}
 use Rattle.models.specs.Reading.{reading, Told}
 use Rattle.writing.specs.Writing.{unfilled}
@@ -20,11 +20,9 @@ use Rattle.machine.specs.declared.machine.Machine.{Machine}
 use Rattle.machine.specs.declared.machine.Outcome.{Outcome}
 use Rattle.machine.specs.Shim.{shimOf}
 use Rattle.machine.specs.Rows.{rowOf}
-use Rattle.machine.specs.Generated.{Making, Built, named, Generated}
+use Rattle.machine.specs.Generated.{Built, Generated}
 use Rattle.generation.proofs.Canonicals.{few-read, all-named}
-use Rattle.listing.specs.Buffer.{Listable}
 use Rattle.listing.specs.Printed.{listing}
-use Rattle.answers.specs.Given.{Given, gives}
 use Rattle.listing.specs.Listed.{ruleOf, textOf, MachineListed, crowded, overfull, made}
 use Rattle.listing.specs.Making.{madeGiven, MadeListable, Sixteen, Ran, Accepted}
 

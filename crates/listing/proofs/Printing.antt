@@ -1,24 +1,22 @@
 -- What is put into the buffer. Assumes nothing.
-use Prim.Native.Nat.{ℕ, zero, suc, _+_, _-_, _*_, _/_, _%_, _≤_, _<_}
-use mathlib.Core.Path.{_≡_, refl, sym, ap, ap₂, subst, _∙_}
-use mathlib.Core.Bool.{Bool, true, false}
+use Prim.Native.Nat.{ℕ, _+_, _-_, _/_, _%_, _≤_}
+use mathlib.Core.Path.{_≡_, refl, sym, ap, ap₂, _∙_}
+use mathlib.Core.Bool.{Bool, true, false, cond}
 use mathlib.Core.List.{List, [], _∷_, _++_, append-assoc}
 use native.Mathlib.Omega.{arith}
 use native.Mathlib.Numerals.{add-one}
+use borrow.Author.Tests.{le-ltb, eq-eqb, ne-eqb}
 use lib.ListN.{length, take, drop, length-append}
 use lib.Seq.{take-length, length-take-le, take-at}
-use borrow.Author.Tests.{le-ltb, eq-eqb, ne-eqb}
-use lib.Dec.{ltb, eqb}
+use lib.Dec.{eqb}
 use Rattle.bytes.specs.Bytes.{indexOf, indexAfter, slice}
-use Rattle.tables.specs.Table.{choose}
-use Rattle.rule.specs.declared.operation.Operation.{Operation}
-use Rattle.rule.specs.Operation.{fenceByte, written}
-use Rattle.models.specs.Bytes.{bytes}
+use Rattle.ground.specs.Bytes.{bytes}
+use Rattle.operations.specs.Alphabet.{kindOf, operationOf}
+use Rattle.operations.specs.declared.Operation.{Operation}
+use Rattle.operations.specs.Operation.{fenceByte, byteOf}
 use Rattle.writing.specs.Writing.{Put, unfilled}
 use Rattle.writing.proofs.Putting.{put-then, put-is, nothing-put}
 use Rattle.mealy.specs.Runs.{Answer, refused, taken}
-use Rattle.mealy.specs.Arrivals.{within}
-use Rattle.machine.specs.Shim.{kindOf, operationOf}
 use Rattle.machine.specs.Rows.{decoded}
 use Rattle.listing.specs.Decimal.{decimal}
 use Rattle.listing.specs.Printed.{fenceMark, nextState, stepLine, stateLines, rowLines}
@@ -40,28 +38,28 @@ module _ (b y d text : List ℕ) (at n : ℕ) (inside : at ≤ length b) (long :
       }
 
 -- the byte of a letter that is a fence, and what a word says
-pub fence-letter : (a : ℕ) → 4 ≤ a → written (operationOf a) ≡ written (Operation.Fence (a - 4))
-fence-letter a h = ap (λ (q : Bool). written (within q (Operation.Access (kindOf a)) (Operation.Fence (a - 4)))) (le-ltb a 4 h)
+pub fence-letter : (a : ℕ) → 4 ≤ a → byteOf (operationOf a) ≡ byteOf (Operation.Fence (a - 4))
+fence-letter a h = ap (λ (q : Bool). byteOf (cond q (Operation.Access (kindOf a)) (Operation.Fence (a - 4)))) (le-ltb a 4 h)
 
 pub decoded-refused : (w : ℕ) → w / 256 ≡ 254 → decoded w ≡ refused
-decoded-refused w e = ap (λ (q : Bool). within q refused (taken (w / 256) (w % 256))) (eq-eqb _ _ e)
+decoded-refused w e = ap (λ (q : Bool). cond q refused (taken (w / 256) (w % 256))) (eq-eqb _ _ e)
 
 pub decoded-taken : (w : ℕ) → (w / 256 ≡ 254 → ⊥) → decoded w ≡ taken (w / 256) (w % 256)
-decoded-taken w e = ap (λ (q : Bool). within q refused (taken (w / 256) (w % 256))) (ne-eqb _ _ e)
+decoded-taken w e = ap (λ (q : Bool). cond q refused (taken (w / 256) (w % 256))) (ne-eqb _ _ e)
 
 pub mark-none : (w : ℕ) → w / 256 ≡ 255 → fenceMark (decoded w) ≡ 45
 mark-none w e =
-    ap fenceMark (decoded-taken w (λ h. omega arith)) ∙ ap (λ (q : Bool). choose q 45 (fenceByte (w / 256))) (eq-eqb _ _ e)
+    ap fenceMark (decoded-taken w (λ h. omega arith)) ∙ ap (λ (q : Bool). cond q 45 (fenceByte (w / 256))) (eq-eqb _ _ e)
 
 pub mark-fence : (w : ℕ) → (w / 256 ≡ 254 → ⊥) → (w / 256 ≡ 255 → ⊥) → fenceMark (decoded w) ≡ fenceByte (w / 256)
-mark-fence w e h = ap fenceMark (decoded-taken w e) ∙ ap (λ (q : Bool). choose q 45 (fenceByte (w / 256))) (ne-eqb _ _ h)
+mark-fence w e h = ap fenceMark (decoded-taken w e) ∙ ap (λ (q : Bool). cond q 45 (fenceByte (w / 256))) (ne-eqb _ _ h)
 
 -- the parts of a step's line
-pub step-text : (s a w l m n : ℕ) → l ≡ written (operationOf a) → m ≡ fenceMark (decoded w) → n ≡ nextState (decoded w)
+pub step-text : (s a w l m n : ℕ) → l ≡ byteOf (operationOf a) → m ≡ fenceMark (decoded w) → n ≡ nextState (decoded w)
     → decimal s ++ ((32 ∷ l ∷ 32 ∷ m ∷ 32 ∷ []) ++ (decimal n ++ bytes "\n")) ≡ stepLine s a (decoded w)
 step-text s a w l m n hl hm hn =
     ap (λ (x : ℕ). decimal s ++ ((32 ∷ x ∷ 32 ∷ m ∷ 32 ∷ []) ++ (decimal n ++ bytes "\n"))) hl
-    ∙ ap₂ (λ (x y : ℕ). decimal s ++ ((32 ∷ written (operationOf a) ∷ 32 ∷ x ∷ 32 ∷ []) ++ (decimal y ++ bytes "\n"))) hm hn
+    ∙ ap₂ (λ (x y : ℕ). decimal s ++ ((32 ∷ byteOf (operationOf a) ∷ 32 ∷ x ∷ 32 ∷ []) ++ (decimal y ++ bytes "\n"))) hm hn
 
 -- a name ends before its first zero
 pub unfilled-is : (l : List ℕ) → take (indexOf 0 l) l ≡ unfilled l
@@ -69,7 +67,7 @@ unfolding unfilled indexOf indexAfter
 unfilled-is [] = refl
 unfilled-is (b ∷ l) = by (eqb b 0) (unfilled-is l)
   where
-    by : (q : Bool) → take (indexOf 0 l) l ≡ unfilled l → take (indexAfter q (indexOf 0 l)) (b ∷ l) ≡ choose q [] (b ∷ unfilled l)
+    by : (q : Bool) → take (indexOf 0 l) l ≡ unfilled l → take (indexAfter q (indexOf 0 l)) (b ∷ l) ≡ cond q [] (b ∷ unfilled l)
     by true e = refl
     by false e = ap (λ (x : List ℕ). b ∷ x) e
 

@@ -1,16 +1,15 @@
 -- The stages of the call, each once it is known how it goes. Assumes nothing.
 use Prim.Native.Nat.{ℕ, _-_, _≤_, _<_}
-use mathlib.Core.Path.{_≡_, refl, sym, ap, subst, _∙_}
+use mathlib.Core.Path.{_≡_, sym, ap, subst, _∙_}
 use mathlib.Core.List.{List}
 use mathlib.Core.Option.{Option, none, some}
 use lib.ListN.{length, take, drop}
 use Rattle.answers.specs.declared.Refusal.{Refusal}
 use Rattle.answers.specs.declared.Answer.{Answer}
-use Rattle.listing.specs.declared.shape.Found.{Found}
-use Rattle.listing.specs.Shape.{lines, Cut, through, endingOf, Parts, withEnding, withTarget, withUpstream, shape}
-use Rattle.listing.specs.Finding.{TextOf}
-use Rattle.answers.specs.Given.{Given, Answers}
+use Rattle.answers.specs.Given.{Answers}
 use Rattle.answers.proofs.Given.{answers-refusal, answers-by}
+use Rattle.listing.specs.Shape.{lines, through, endingOf, Parts, withEnding, withTarget, withUpstream, shape}
+use Rattle.listing.specs.Finding.{TextOf}
 use Rattle.listing.specs.Listed.{PartsListed, ShapeListed, shapeless, shaped, Listed, over, within}
 use Rattle.listing.proofs.Lines.{part-rest}
 

@@ -1,17 +1,18 @@
 -- The contract of `list` allows one answer and one final buffer. Assumes nothing.
 use Prim.Native.Nat.{ℕ, zero, suc, _≤_, _<_}
 use mathlib.Core.Path.{_≡_, refl, sym, ap, ap₂, subst, _∙_}
-use mathlib.Core.List.{List, [], _∷_, _++_}
-use mathlib.Core.Option.{Option, none, some}
+use mathlib.Core.List.{List, _++_}
+use mathlib.Core.Option.{Option}
 use native.Mathlib.Omega.{arith}
-use lib.ListN.{length}
+use Rattle.ground.proofs.Truths.{differ}
+use Rattle.ground.specs.Bytes.{bytes}
 use Rattle.answers.specs.declared.Answer.{Answer}
+use Rattle.answers.specs.Given.{Given, gives, refuses, Answers}
+use Rattle.answers.proofs.Given as given
 use Rattle.rule.specs.declared.situation.Situation.{Situation}
 use Rattle.rule.specs.declared.way.Way.{Way}
-use Rattle.rule.proofs.Choices.{differ}
 use Rattle.models.specs.declared.model.Model.{Model}
 use Rattle.models.specs.Reading.{reading}
-use Rattle.models.specs.Bytes.{bytes}
 use Rattle.writing.specs.Writing.{unfilled}
 use Rattle.runs.specs.Bytes.{fenceBytes, put as ran, refuse as stopped}
 use Rattle.mealy.specs.Runs.{Answer as Told, Machine, Same}
@@ -20,9 +21,7 @@ use Rattle.mealy.proofs.Runs.{same-sym, same-trans}
 use Rattle.mealy.proofs.Unique.{Alike, not-more, arrivals-at-most, described-unique}
 use Rattle.listing.specs.Shape.{Parts}
 use Rattle.listing.specs.Printed.{namesLine, numberLine, stepLine, stateLines, rowLines, outLine}
-use Rattle.answers.specs.Given.{Given, gives, refuses, Answers}
-use Rattle.answers.proofs.Given as given
-use Rattle.listing.specs.Listed.{direct, ruleOf, textOf, MachineListed, crowded, overfull, made, PartsListed, halts, runs, ShapeListed, shapeless, shaped, Listed, over, within}
+use Rattle.listing.specs.Listed.{ruleOf, textOf, MachineListed, crowded, overfull, made, PartsListed, halts, runs, ShapeListed, shapeless, shaped, Listed, over, within}
 
 -- rows that agree where there are states and letters print the same lines
 state-same : (s : ℕ) (row wor : ℕ → Told ℕ ℕ) (n : ℕ) → ((a : ℕ) → a < n → row a ≡ wor a) → stateLines s row n ≡ stateLines s wor n

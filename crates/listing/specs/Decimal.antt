@@ -1,8 +1,8 @@
 -- Numbers in decimal, as a listing prints them: no zeros in front.
 use Prim.Native.Nat.{ℕ, zero, suc, _+_, _/_, _%_}
+use mathlib.Core.Bool.{cond}
 use mathlib.Core.List.{List, [], _∷_, _++_}
 use lib.Dec.{ltb}
-use Rattle.tables.specs.Table.{choose}
 
 abbrev pub digit : ℕ → List ℕ
 digit n = (48 + n) ∷ []
@@ -10,7 +10,7 @@ digit n = (48 + n) ∷ []
 -- of at most so many digits
 unfoldable pub digits : ℕ → ℕ → List ℕ
 digits zero n = []
-digits (suc k) n = choose (ltb n 10) (digit n) (digits k (n / 10) ++ digit (n % 10))
+digits (suc k) n = cond (ltb n 10) (digit n) (digits k (n / 10) ++ digit (n % 10))
 
 -- a number has at most one digit more than it counts
 unfoldable pub decimal : ℕ → List ℕ

@@ -9,7 +9,7 @@ use Rattle.rule.specs.declared.way.Way.{Way}
 use Rattle.listing.specs.declared.shape.Found.{Found}
 use Rattle.listing.specs.declared.shape.Looked.{Looked}
 use Rattle.listing.specs.declared.shape.Tail.{Tail}
-use Rattle.listing.specs.Shape.{lines, Cut, behind, through, isRun, endingOf}
+use Rattle.listing.specs.Shape.{lines, behind, through, isRun, endingOf}
 
 -- the first line has n bytes, with its line feed
 pub record LineOf (t : List ℕ) (n : ℕ) : Type 0 where

@@ -1,7 +1,7 @@
 -- What `shimlist` prints for its input. Document 01: "Order: ..; upstream text (1, 2, 3); target text; ..; stream length; the earliest of 4, 5, 6 in
 -- the stream; 8; 9; 7 last." "Input over 32,768 bytes prints `refused 1 at 0`, and input not of this shape prints `refused 2 at 0`. Otherwise any
 -- refusal prints only `refused N at K`, with K counted within its own text or stream." The stream is judged before the machine is made.
-use Prim.Native.Nat.{ℕ, _+_, _≤_, _<_}
+use Prim.Native.Nat.{ℕ, _≤_, _<_}
 use mathlib.Core.Path.{_≡_}
 use mathlib.Core.List.{List}
 use mathlib.Core.Option.{Option, none, some}

@@ -2,16 +2,16 @@
 -- refused, next state), the direct run's output (nothing after `out ` if empty), its fences." "A `!` line ends in 0." "any refusal prints only
 -- `refused N at K`". Operations are those of the machine's alphabet, l, L, s, S, then the upstream's fences.
 use Prim.Native.Nat.{ℕ, zero, suc}
+use mathlib.Core.Bool.{cond}
 use mathlib.Core.List.{List, [], _∷_, _++_}
 use lib.Dec.{eqb}
-use Rattle.tables.specs.Table.{choose}
+use Rattle.ground.specs.Bytes.{bytes}
 use Rattle.answers.specs.declared.Refusal.{Refusal}
 use Rattle.answers.specs.Answer.{numberOf, placeOf}
+use Rattle.operations.specs.Alphabet.{operationOf}
+use Rattle.operations.specs.Operation.{fenceByte, byteOf}
 use Rattle.rule.specs.declared.way.Way.{Way}
-use Rattle.rule.specs.Operation.{fenceByte, written}
-use Rattle.models.specs.Bytes.{bytes}
 use Rattle.mealy.specs.Runs.{Answer, refused, taken}
-use Rattle.machine.specs.Shim.{operationOf}
 use Rattle.listing.specs.Decimal.{decimal}
 
 abbrev pub wayWord : Way → List ℕ
@@ -28,7 +28,7 @@ numberLine word n = word ++ (decimal n ++ bytes "\n")
 -- the fence byte, `-` for none (255), or `!`; and the next state
 abbrev pub fenceMark : Answer ℕ ℕ → ℕ
 fenceMark refused = 33
-fenceMark (taken fence next) = choose (eqb fence 255) 45 (fenceByte fence)
+fenceMark (taken fence next) = cond (eqb fence 255) 45 (fenceByte fence)
 
 abbrev pub nextState : Answer ℕ ℕ → ℕ
 nextState refused = 0
@@ -37,7 +37,7 @@ nextState (taken fence next) = next
 -- the line of a state and a letter of the alphabet
 abbrev pub stepLine : ℕ → ℕ → Answer ℕ ℕ → List ℕ
 stepLine state letter answer =
-    decimal state ++ ((32 ∷ written (operationOf letter) ∷ 32 ∷ fenceMark answer ∷ 32 ∷ []) ++ (decimal (nextState answer) ++ bytes "\n"))
+    decimal state ++ ((32 ∷ byteOf (operationOf letter) ∷ 32 ∷ fenceMark answer ∷ 32 ∷ []) ++ (decimal (nextState answer) ++ bytes "\n"))
 
 -- the lines of a state, for the first letters; and of the first states
 unfoldable pub stateLines : ℕ → (ℕ → Answer ℕ ℕ) → ℕ → List ℕ

@@ -2,15 +2,13 @@
 -- stream". "In the input a model text runs through the first line that is exactly `end`, and the `way` and `run` lines each end in a line feed
 -- with nothing after."
 use Prim.Native.Nat.{ℕ, _-_}
-use mathlib.Core.Bool.{Bool, _&&_}
+use mathlib.Core.Bool.{Bool, _&&_, cond}
 use mathlib.Core.List.{List, [], _∷_, _++_}
 use mathlib.Core.Option.{Option, none, some}
 use lib.Dec.{eqb, leb}
 use lib.ListN.{length, getD, take, drop}
-use Rattle.tables.specs.Table.{choose}
+use Rattle.ground.specs.Bytes.{bytes, sameBytes}
 use Rattle.rule.specs.declared.way.Way.{Way}
-use Rattle.models.specs.Bytes.{bytes}
-use Rattle.models.specs.Reading.{sameBytes}
 use Rattle.runs.specs.declared.WayRead.{WayRead}
 
 -- the lines of a text, each with its line feed; the last may lack it
@@ -20,7 +18,7 @@ onto b (x ∷ xs) = (b ∷ x) ∷ xs
 
 unfoldable pub lines : List ℕ → List (List ℕ)
 lines [] = []
-lines (b ∷ l) = choose (eqb b 10) ((b ∷ []) ∷ lines l) (onto b (lines l))
+lines (b ∷ l) = cond (eqb b 10) ((b ∷ []) ∷ lines l) (onto b (lines l))
 
 -- a text, and the lines after it
 pub record Cut : Type 0 where
@@ -34,10 +32,10 @@ behind x (some c) = some (record { text = x ++ c .text; rest = c .rest })
 -- the text through the first line that is exactly `end`
 unfoldable pub through : List (List ℕ) → Option Cut
 through [] = none
-through (x ∷ xs) = choose (sameBytes x (bytes "end\n")) (some (record { text = x; rest = xs })) (behind x (through xs))
+through (x ∷ xs) = cond (sameBytes x (bytes "end\n")) (some (record { text = x; rest = xs })) (behind x (through xs))
 
 abbrev pub wayIn : List ℕ → WayRead
-wayIn x = choose (sameBytes x (bytes "way full\n")) (WayRead.Is Way.Full) (choose (sameBytes x (bytes "way sparing\n")) (WayRead.Is Way.Sparing) WayRead.Nothing)
+wayIn x = cond (sameBytes x (bytes "way full\n")) (WayRead.Is Way.Full) (cond (sameBytes x (bytes "way sparing\n")) (WayRead.Is Way.Sparing) WayRead.Nothing)
 
 -- `run `, a stream and a line feed
 abbrev pub isRun : List ℕ → Bool
@@ -52,7 +50,7 @@ pub record Ending : Type 0 where
   pub stream : List ℕ
 
 abbrev pub endingFrom : WayRead → List ℕ → Option Ending
-endingFrom (WayRead.Is way) r = choose (isRun r) (some (record { way = way; stream = streamOf r })) none
+endingFrom (WayRead.Is way) r = cond (isRun r) (some (record { way = way; stream = streamOf r })) none
 endingFrom WayRead.Nothing r = none
 
 abbrev pub endingOf : List (List ℕ) → Option Ending

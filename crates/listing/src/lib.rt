@@ -2,15 +2,15 @@
 mod print;
 mod shape;
 
-ghost use mathlib.Core.Path.{_≡_};
 ghost use Prim.Native.Nat.{_+_};
+ghost use mathlib.Core.Path.{_≡_};
 ghost use lib.ListN.{length};
 ghost use Rattle.answers.specs.Written.{written, writing};
+ghost use Rattle.answers.specs.Given.{answerOf, bufferOf, Answers};
 ghost use Rattle.writing.specs.Writing.{unfilled};
 ghost use Rattle.machine.specs.Rows.{rowOf};
 ghost use Rattle.listing.specs.Buffer.{Listable};
 ghost use Rattle.listing.specs.Printed.{listing, refusalLine};
-ghost use Rattle.answers.specs.Given.{answerOf, bufferOf, Answers};
 ghost use Rattle.listing.specs.Listed.{MachineListed, PartsListed, ShapeListed, Listed};
 ghost use Rattle.listing.specs.Making.{madeGiven, MadeListable, Sixteen, Ran, Accepted};
 ghost use Rattle.models.specs.Reading.{reading};

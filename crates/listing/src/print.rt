@@ -1,12 +1,10 @@
 // The lines of a listing, put one behind another into a buffer.
+ghost use Prim.Native.Nat.{_+_, _*_, _≤_, _<_};
 ghost use mathlib.Core.Path.{_≡_};
 ghost use mathlib.Core.List.{_++_};
-ghost use Prim.Native.Nat.{_+_, _*_, _≤_, _<_};
 ghost use lib.ListN.{length};
-ghost use Rattle.rule.specs.Operation.{written};
-ghost use Rattle.models.specs.Bytes.{bytes};
+ghost use Rattle.ground.specs.Bytes.{bytes};
 ghost use Rattle.writing.specs.Writing.{Put, unfilled};
-ghost use Rattle.machine.specs.Shim.{operationOf};
 ghost use Rattle.machine.specs.Rows.{decoded, rowOf};
 ghost use Rattle.listing.specs.Buffer.{Room, Listable};
 ghost use Rattle.listing.specs.Decimal.{decimal};
@@ -14,7 +12,8 @@ ghost use Rattle.listing.specs.Printed.{wayWord, namesLine, numberLine, 
 use answers::Refusal;
 use machine::machine::Machine;
 use models::model::Name;
-use rule::operation::Operation;
+use operations::Operation;
+use operations::alphabet;
 use rule::way::Way;
 
 // Puts a text behind the first `at` bytes, and tells where it ends.
@@ -48,24 +47,6 @@ fn put_number_line(buffer: &mut [u8], at: usize, word: &[u8], number: u64) -> us
     put(buffer, end, b"\n")
 }
 
-fn letter_byte(letter: usize) -> u8
-    ensures { λ r. ⌜ r ≡ written (operationOf letter) ⌝ }
-{
-    if letter == 0 {
-        return b'l';
-    }
-    if letter == 1 {
-        return b'L';
-    }
-    if letter == 2 {
-        return b's';
-    }
-    if letter == 3 {
-        return b'S';
-    }
-    rule::operation::byte_of(Operation::Fence(letter - 4))
-}
-
 fn mark_of(word: u16) -> u8
     ensures { λ r. ⌜ r ≡ fenceMark (decoded word) ⌝ }
 {
@@ -76,7 +57,7 @@ fn mark_of(word: u16) -> u8
     if fence == 255 {
         return b'-';
     }
-    rule::operation::byte_of(Operation::Fence(fence as usize))
+    operations::byte_of(Operation::Fence(fence as usize))
 }
 
 fn next_of(word: u16) -> u64
@@ -95,7 +76,13 @@ fn put_step(buffer: &mut [u8], at: usize, state: usize, letter: usize, word: u16
     ensures { λ r. ⌜ r ≤ at + 12 ⌝ }
 {
     let middle_at = put_decimal(buffer, at, state as u64);
-    let middle = [b' ', letter_byte(letter), b' ', mark_of(word), b' '];
+    let middle = [
+        b' ',
+        alphabet::letter_byte(letter),
+        b' ',
+        mark_of(word),
+        b' ',
+    ];
     let next_at = put(buffer, middle_at, &middle);
     put_number_line(buffer, next_at, b"", next_of(word))
 }

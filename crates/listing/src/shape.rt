@@ -1,6 +1,5 @@
 // The shape of an input: two model texts, the way's line, the run's line.
 ghost use mathlib.Core.Path.{_≡_};
-ghost use Rattle.models.specs.Reading.{sameBytes};
 ghost use Rattle.listing.specs.Shape.{wayIn, isRun};
 ghost use Rattle.listing.specs.Finding.{LineEnd, Looks, TextEnd, OnlyRun, EndingAt};
 use rule::way::Way;
@@ -25,22 +24,6 @@ pub enum Tail {
     Other,
 }
 
-fn same<'a>(first: &'a [u8], second: &'a [u8]) -> bool
-    ensures { λ r. ⌜ r ≡ sameBytes (now (first .entry)) (now (second .entry)) ⌝ }
-{
-    if first.len() != second.len() {
-        return false;
-    }
-    let mut i = 0;
-    while i < first.len() {
-        if first[i] != second[i] {
-            return false;
-        }
-        i += 1;
-    }
-    true
-}
-
 // The end of the first line, past its line feed.
 fn line_end(text: &[u8]) -> Found
     ensures { λ r. ⌜ LineEnd (now (text .entry)) r ⌝ }
@@ -61,7 +44,7 @@ fn look(text: &[u8]) -> Looked
     match line {
         Found::Nothing => Looked::Nothing,
         Found::At(n) => {
-            if same(&text[..n], b"end\n") {
+            if ground::same(&text[..n], b"end\n") {
                 Looked::End(n)
             } else {
                 Looked::More(n)
@@ -89,10 +72,10 @@ pub(crate) fn text_end(text: &[u8]) -> Found
 fn way_in(line: &[u8]) -> WayRead
     ensures { λ r. ⌜ r ≡ wayIn (now (line .entry)) ⌝ }
 {
-    if same(line, b"way full\n") {
+    if ground::same(line, b"way full\n") {
         return WayRead::Is(Way::Full);
     }
-    if same(line, b"way sparing\n") {
+    if ground::same(line, b"way sparing\n") {
         return WayRead::Is(Way::Sparing);
     }
     WayRead::Nothing
@@ -104,7 +87,7 @@ fn is_run(line: &[u8]) -> bool
     if line.len() < 5 {
         return false;
     }
-    if same(&line[..4], b"run ") {
+    if ground::same(&line[..4], b"run ") {
         return line[line.len() - 1] == b'\n';
     }
     false

@@ -6,8 +6,9 @@ use mathlib.Core.List.{List}
 use native.Mathlib.Omega.{arith}
 use lib.ListN.{length, set, length-set}
 use lib.Seq.{getD-set-same, getD-set-other}
+use Rattle.ground.specs.Bytes.{at}
+use Rattle.operations.specs.Alphabet.{stride}
 use Rattle.mealy.proofs.Numbering.{split-last}
-use Rattle.machine.specs.Words.{stride, at}
 use Rattle.machine.specs.Rows.{RowWritten, Narrow}
 
 pub narrow-at : {table : List ℕ} → Narrow table → (p : ℕ) {w : ℕ} → w ≡ at table p → w < 1052672

@@ -7,6 +7,8 @@ use native.Mathlib.Omega.{arith}
 use native.Mathlib.Decide.{ℕ-discrete}
 use lib.ListN.{length, getD, set, length-set, length-append, List·getD-append}
 use lib.Seq.{getD-set-same, getD-set-other, getD-append-seam}
+use Rattle.ground.specs.Bytes.{at}
+use Rattle.operations.specs.Alphabet.{stride}
 use Rattle.rule.specs.declared.situation.Situation.{Situation}
 use Rattle.mealy.specs.Runs.{Answer, refused, taken, Machine, reached}
 use Rattle.mealy.specs.Order.{_▹_}
@@ -16,7 +18,7 @@ use Rattle.mealy.proofs.Runs.{untaken, ends-on}
 use Rattle.mealy.proofs.Numbering.{split-last}
 use Rattle.mealy.proofs.Exploring.{ahead, explore-known, explore-new, explore-beyond}
 use Rattle.machine.specs.Index.{capacity, Index, Pair, Absent, Pushed, Placed, known, added, full}
-use Rattle.machine.specs.Words.{stride, at, answer, row}
+use Rattle.machine.specs.Words.{answer, row}
 use Rattle.machine.specs.Rows.{Narrow}
 use Rattle.machine.specs.Explore.{situationAt, Output, Explored, Stored, stored, unstored, Onward, onward, beyond}
 use Rattle.machine.proofs.Keys.{word-taken}

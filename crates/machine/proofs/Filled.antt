@@ -3,9 +3,9 @@ use Prim.Native.Nat.{ℕ, _+_, _≤_, _<_}
 use mathlib.Core.Path.{_≡_, _∙_, ap}
 use mathlib.Core.List.{List, _++_, append-nil}
 use native.Mathlib.Omega.{arith}
+use borrow.Author.Fill.{fill-more}
 use lib.ListN.{length, drop, set, replicate}
 use lib.Seq.{drop-length}
-use borrow.Author.Fill.{fill-more}
 
 pub filled : (d e : List ℕ) (n v : ℕ) → n ≤ length d → length d ≤ n → e ≡ replicate n v ++ drop n d → e ≡ replicate (length d) v
 filled d e n v h l q =

@@ -8,7 +8,9 @@ use native.Mathlib.Omega.{arith}
 use native.Mathlib.Decide.{decLt}
 use borrow.Author.Tests.{lt-ltb, le-ltb, ne-eqb}
 use lib.ListN.{length}
+use Rattle.ground.specs.Bytes.{at}
 use Rattle.tables.specs.declared.table.Table.{Table}
+use Rattle.operations.specs.Alphabet.{stride}
 use Rattle.rule.specs.declared.situation.Situation.{Situation}
 use Rattle.rule.specs.declared.way.Way.{Way}
 use Rattle.rule.specs.Rule.{wayNumber}
@@ -21,7 +23,7 @@ use Rattle.mealy.proofs.Numbering.{numbering-one}
 use Rattle.mealy.proofs.Describing.{numbered-step}
 use Rattle.mealy.proofs.States.{rows-closed, classes-many, classes-states}
 use Rattle.machine.specs.Index.{capacity}
-use Rattle.machine.specs.Words.{stride, at, answer, row, tabled}
+use Rattle.machine.specs.Words.{answer, row, tabled}
 use Rattle.machine.specs.Rows.{decoded, stateWord, stateEntry, RowsWritten}
 use Rattle.machine.specs.Refine.{Begun, Crowd}
 use Rattle.machine.specs.Explore.{Explored, Output, Blank}

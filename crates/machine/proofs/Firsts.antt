@@ -5,11 +5,12 @@ use mathlib.Core.Logic.{inl, inr, ⊎-elim}
 use mathlib.Core.List.{List}
 use native.Mathlib.Omega.{arith}
 use lib.ListN.{length}
+use Rattle.ground.specs.Bytes.{at}
+use Rattle.operations.specs.Alphabet.{stride}
 use Rattle.mealy.specs.Classes.{Numbering}
 use Rattle.mealy.proofs.Unique.{order}
 use Rattle.mealy.proofs.Refining.{firsts-rise}
 use Rattle.mealy.proofs.Numbering.{split-last}
-use Rattle.machine.specs.Words.{stride, at}
 use Rattle.machine.specs.Rows.{RowWritten, RowsWritten, FirstWritten, later, first}
 
 -- of the first i situations, those that are the first of their classes, which are the classes below q, have their rows written

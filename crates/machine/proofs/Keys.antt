@@ -6,11 +6,13 @@ use mathlib.Core.List.{List}
 use native.Mathlib.Omega.{arith}
 use native.Mathlib.Decide.{decLt}
 use borrow.Author.Tests.{lt-ltb, le-ltb}
+use Rattle.ground.specs.Bytes.{at}
+use Rattle.operations.specs.Alphabet.{stride}
 use Rattle.mealy.specs.Runs.{refused, taken}
 use Rattle.mealy.specs.Classes.{classed, Closed, Split}
 use Rattle.mealy.proofs.Runs.{untaken}
 use Rattle.mealy.proofs.Describing.{numbered-step}
-use Rattle.machine.specs.Words.{stride, at, answer, row, tabled, seen, key}
+use Rattle.machine.specs.Words.{answer, row, tabled, seen, key}
 use Rattle.machine.specs.Refine.{ByKey}
 
 pub word-refused : (w : ℕ) → w < 4096 → answer w ≡ refused

@@ -10,6 +10,7 @@ use borrow.Author.Tests.{lt-ltb, le-ltb}
 use lib.ListN.{length}
 use Rattle.tables.specs.declared.table.Table.{Table}
 use Rattle.tables.specs.Table.{atLeast}
+use Rattle.operations.specs.Alphabet.{kindOf}
 use Rattle.rule.specs.declared.situation.Situation.{Situation}
 use Rattle.rule.specs.declared.way.Way.{Way}
 use Rattle.rule.specs.declared.way.Choice.{Choice}
@@ -18,7 +19,7 @@ use Rattle.rule.specs.Situation.{none, pending, choiceOf, stepOf}
 use Rattle.rule.proofs.Choices.{Takes, serves, choice-nothing, choice-pick, pick-takes}
 use Rattle.mealy.specs.Runs.{Answer, taken}
 use Rattle.mealy.proofs.Runs.{untaken}
-use Rattle.machine.specs.Shim.{kindOf, lettersOf, stepAnswer, letterAnswer, shim}
+use Rattle.machine.specs.Shim.{lettersOf, stepAnswer, letterAnswer, shim}
 use Rattle.machine.specs.Explore.{Output}
 
 pub shim-step : (way : Way) (up target : Model) (s : Situation) (a : ℕ) → a < lettersOf up

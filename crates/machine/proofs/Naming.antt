@@ -7,10 +7,10 @@ use mathlib.Core.List.{List}
 use native.Mathlib.Omega.{arith}
 use lib.ListN.{length, set, replicate, length-set, length-replicate, getD-replicate}
 use lib.Seq.{getD-set-same, getD-set-other}
+use Rattle.ground.specs.Bytes.{at}
 use Rattle.mealy.specs.Classes.{Numbering}
 use Rattle.mealy.proofs.Numbering.{split-last, numbering-none, numbering-known, numbering-new}
 use Rattle.machine.specs.Index.{capacity, needAt, Scratch, Index, Pair, Absent, Pushed, Placed, known, added, full}
-use Rattle.machine.specs.Words.{at}
 use Rattle.machine.specs.Refine.{ByKey, Named, named, crowded}
 
 -- the first i things are numbered

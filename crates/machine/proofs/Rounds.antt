@@ -5,11 +5,12 @@ use mathlib.Core.List.{List, _++_, append-nil}
 use native.Mathlib.Omega.{arith}
 use lib.ListN.{length, take, drop, drop-of-length-le}
 use lib.Seq.{take-all}
+use Rattle.ground.specs.Bytes.{at}
 use Rattle.mealy.specs.Runs.{Machine}
 use Rattle.mealy.specs.Classes.{Coarse, Round, States}
 use Rattle.mealy.proofs.Refining.{split-coarse, round-start, round-next, round-end}
 use Rattle.machine.specs.Index.{capacity, Scratch}
-use Rattle.machine.specs.Words.{words, at, tabled, key}
+use Rattle.machine.specs.Words.{words, tabled, key}
 use Rattle.machine.specs.Refine.{Named, named, crowded, Rounded, rounded, overfull, Refined, refined, overmany, Begun, Crowd}
 use Rattle.machine.proofs.Keys.{key-split}
 

@@ -7,11 +7,12 @@ use native.Mathlib.Omega.{arith}
 use native.Mathlib.Decide.{decLt}
 use borrow.Author.Tests.{lt-ltb, le-ltb, ne-eqb}
 use lib.ListN.{length}
-use Rattle.rule.specs.declared.operation.Operation.{Operation}
+use Rattle.tables.specs.Table.{table}
+use Rattle.operations.specs.declared.Operation.{Operation}
+use Rattle.operations.specs.Alphabet.{kindOf}
 use Rattle.rule.specs.declared.situation.Situation.{Situation}
 use Rattle.rule.specs.declared.way.Way.{Way}
 use Rattle.rule.specs.declared.way.Choice.{Choice}
-use Rattle.tables.specs.Table.{table}
 use Rattle.rule.specs.Stream.{Stream, access, fence, accesses}
 use Rattle.rule.specs.Pairs.{Model}
 use Rattle.rule.specs.Rule.{Ran, done, refused as stopped, behind, onward, run}
@@ -21,7 +22,7 @@ use Rattle.rule.proofs.Streams.{same-access, same-fence}
 use Rattle.rule.proofs.Situations.{asks-step, offers-step, joins-step, chosen-rule}
 use Rattle.mealy.specs.Runs.{Answer, taken, go, ends, reached}
 use Rattle.mealy.proofs.Runs.{untaken}
-use Rattle.machine.specs.Shim.{kindOf, lettersOf, stepAnswer, letterAnswer, shim}
+use Rattle.machine.specs.Shim.{lettersOf, stepAnswer, letterAnswer, shim}
 use Rattle.machine.specs.Explore.{Output}
 use Rattle.machine.specs.Spoken.{Letters, operations, puts}
 use Rattle.machine.proofs.Letters.{shim-step, letter-output}

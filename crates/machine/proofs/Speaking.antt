@@ -8,6 +8,7 @@ use native.Mathlib.Decide.{decLt}
 use borrow.Author.Tests.{lt-ltb, le-ltb, ne-eqb}
 use lib.ListN.{length}
 use lib.Dec.{T}
+use Rattle.operations.specs.Alphabet.{kindOf, operationOf}
 use Rattle.rule.specs.declared.situation.Situation.{Situation}
 use Rattle.rule.specs.declared.way.Way.{Way}
 use Rattle.rule.specs.declared.way.Choice.{Choice}
@@ -19,7 +20,7 @@ use Rattle.rule.proofs.Continued.{follows, then, continued}
 use Rattle.rule.proofs.Theorems.{steps-are-the-rule}
 use Rattle.mealy.specs.Runs.{Answer, refused, taken, Machine, Told, refusal, output, after, tell, told, go, ends, heard, AcceptedFrom, reached, Same}
 use Rattle.mealy.proofs.Runs.{untaken, first-taken}
-use Rattle.machine.specs.Shim.{kindOf, operationOf, lettersOf, stepAnswer, letterAnswer, shim}
+use Rattle.machine.specs.Shim.{lettersOf, stepAnswer, letterAnswer, shim}
 use Rattle.machine.specs.Spoken.{Letters, operations, puts, spelt, spelling, say, spoken, AnswersLikeTheRule}
 use Rattle.machine.proofs.Letters.{shim-step, choice-low}
 

@@ -8,14 +8,15 @@ use native.Mathlib.Decide.{decLt}
 use borrow.Author.Tests.{ne-eqb}
 use lib.ListN.{length}
 use lib.Seq.{ext-getD}
+use Rattle.ground.specs.Bytes.{at}
 use Rattle.tables.specs.declared.table.Table.{Table}
+use Rattle.operations.specs.Alphabet.{stride}
 use Rattle.rule.specs.declared.situation.Situation.{Situation}
 use Rattle.rule.specs.declared.way.Way.{Way}
 use Rattle.mealy.specs.Runs.{Answer, taken, Machine as Mealy, Same}
 use Rattle.mealy.specs.Arrivals.{More, Described}
 use Rattle.mealy.proofs.Runs.{untaken, same-sym, same-trans}
 use Rattle.mealy.proofs.Unique.{Alike, not-more, arrivals-at-most, exactly-unique, described-unique}
-use Rattle.machine.specs.Words.{stride, at}
 use Rattle.machine.specs.Rows.{decoded, rowOf}
 use Rattle.machine.specs.Shim.{shimOf}
 use Rattle.machine.specs.Generated.{Canonical, refusing, passing, Making, Roomless, Built, named, Generated}

@@ -4,13 +4,15 @@ use mathlib.Core.Path.{_≡_}
 use mathlib.Core.Logic.{_⊎_}
 use mathlib.Core.List.{List}
 use lib.ListN.{length, set}
+use Rattle.ground.specs.Bytes.{at}
+use Rattle.operations.specs.Alphabet.{stride}
 use Rattle.rule.specs.declared.situation.Situation.{Situation}
 use Rattle.rule.specs.Situation.{fresh}
 use Rattle.mealy.specs.Runs.{taken, Machine}
 use Rattle.mealy.specs.Arrivals.{arrival, More}
 use Rattle.mealy.specs.Exploring.{Exploring}
 use Rattle.machine.specs.Index.{capacity, needAt, lowAt, Index, Placed}
-use Rattle.machine.specs.Words.{stride, words, at, answer, row}
+use Rattle.machine.specs.Words.{words, answer, row}
 use Rattle.machine.specs.Rows.{Narrow}
 
 -- the situation at a place

@@ -5,13 +5,14 @@ use mathlib.Core.Path.{_≡_}
 use mathlib.Core.Logic.{_⊎_}
 use mathlib.Core.List.{List}
 use lib.ListN.{length, take}
+use Rattle.ground.specs.Bytes.{at}
 use Rattle.tables.specs.declared.table.Table.{Table}
+use Rattle.operations.specs.Alphabet.{stride}
 use Rattle.rule.specs.declared.situation.Situation.{Situation}
 use Rattle.rule.specs.declared.way.Way.{Way}
 use Rattle.rule.specs.Rule.{wayNumber}
 use Rattle.mealy.specs.Runs.{Answer, Machine as Mealy, Same}
 use Rattle.mealy.specs.Arrivals.{More, AtMost, Exactly, Described}
-use Rattle.machine.specs.Words.{stride, at}
 use Rattle.machine.specs.Rows.{rowOf}
 use Rattle.machine.specs.Shim.{shimOf}
 use Rattle.machine.specs.declared.machine.Machine.{Machine}

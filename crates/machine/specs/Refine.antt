@@ -4,10 +4,11 @@ use mathlib.Core.Path.{_≡_}
 use mathlib.Core.Logic.{_↔_}
 use mathlib.Core.List.{List}
 use lib.ListN.{length}
+use Rattle.ground.specs.Bytes.{at}
+use Rattle.operations.specs.Alphabet.{stride}
 use Rattle.mealy.specs.Runs.{Machine}
 use Rattle.mealy.specs.Classes.{Numbering, Closed, Coarse, Round, States}
 use Rattle.machine.specs.Index.{capacity}
-use Rattle.machine.specs.Words.{stride, at}
 
 -- two things have one class exactly where they have one key
 abbrev pub ByKey : ℕ → (ℕ → ℕ) → (ℕ → ℕ) → Type 0

@@ -2,17 +2,19 @@
 -- machine image": "a fence byte (a number, FF none, FE refused) with the next state (0 where refused)", "zero where there is no such fence".
 use Prim.Native.Nat.{ℕ, _+_, _-_, _*_, _/_, _%_, _≤_, _<_}
 use mathlib.Core.Path.{_≡_}
+use mathlib.Core.Bool.{cond}
 use mathlib.Core.Logic.{_⊎_}
 use mathlib.Core.List.{List}
 use lib.ListN.{length}
 use lib.Dec.{ltb, eqb}
+use Rattle.ground.specs.Bytes.{at}
+use Rattle.operations.specs.Alphabet.{stride}
 use Rattle.mealy.specs.Runs.{Answer, refused, taken, Machine}
-use Rattle.mealy.specs.Arrivals.{within, numbered}
-use Rattle.machine.specs.Words.{stride, at}
+use Rattle.mealy.specs.Arrivals.{numbered}
 
 -- what a word says
 abbrev pub decoded : ℕ → Answer ℕ ℕ
-decoded w = within (eqb (w / 256) 254) refused (taken (w / 256) (w % 256))
+decoded w = cond (eqb (w / 256) 254) refused (taken (w / 256) (w % 256))
 
 -- the answer at a state to a letter
 abbrev pub rowOf : List ℕ → ℕ → ℕ → Answer ℕ ℕ
@@ -24,11 +26,11 @@ answering n rows = numbered n (rowOf rows)
 
 -- the word of a state whose first situation has word w in the table: refused, or the output and the class of the target
 abbrev pub stateWord : List ℕ → ℕ → ℕ
-stateWord classes w = within (ltb w 4096) 65024 ((w / 4096 - 1) * 256 + at classes (w % 4096))
+stateWord classes w = cond (ltb w 4096) 65024 ((w / 4096 - 1) * 256 + at classes (w % 4096))
 
 -- and 0 where the machine has not the letter
 abbrev pub stateEntry : List ℕ → List ℕ → ℕ → ℕ → ℕ → ℕ
-stateEntry table classes letters i a = within (ltb a letters) (stateWord classes (at table (i * stride + a))) 0
+stateEntry table classes letters i a = cond (ltb a letters) (stateWord classes (at table (i * stride + a))) 0
 
 -- the first n words of row q are f's, and all else is as it was
 pub record RowWritten (rows : List ℕ) (q : ℕ) (f : ℕ → ℕ) (n : ℕ) (rows′ : List ℕ) : Type 0 where

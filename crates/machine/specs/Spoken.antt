@@ -2,15 +2,16 @@
 -- access", "Upstream fences are not passed on."
 use Prim.Native.Nat.{ℕ, _<_}
 use mathlib.Core.Path.{_≡_, ap}
+use mathlib.Core.Bool.{cond}
 use mathlib.Core.List.{List, [], _∷_, _++_, map}
 use lib.Dec.{ltb, eqb}
+use Rattle.operations.specs.Alphabet.{kindOf, operationOf}
 use Rattle.rule.specs.declared.way.Way.{Way}
 use Rattle.rule.specs.Stream.{Stream, access, fence}
 use Rattle.rule.specs.Pairs.{Model}
 use Rattle.rule.specs.Rule.{Ran, done, refused as stopped, behind, run}
 use Rattle.mealy.specs.Runs.{Answer, refused, taken, Machine}
-use Rattle.mealy.specs.Arrivals.{within}
-use Rattle.machine.specs.Shim.{kindOf, operationOf, lettersOf}
+use Rattle.machine.specs.Shim.{lettersOf}
 
 -- a stream of letters of an alphabet of n, and its operations
 abbrev pub Letters : ℕ → List ℕ → Type 0
@@ -22,7 +23,7 @@ operations w = map operationOf w
 
 -- what is put out for letter a with fence byte o: nothing for an upstream fence, and the access for an access, behind fence o unless o is 255
 abbrev pub puts : ℕ → ℕ → Stream
-puts a o = within (ltb a 4) (within (eqb o 255) (access (kindOf a)) (fence o ++ access (kindOf a))) []
+puts a o = cond (ltb a 4) (cond (eqb o 255) (access (kindOf a)) (fence o ++ access (kindOf a))) []
 
 -- an answer, and a machine, with what is put out in the fence byte's place
 abbrev pub spelt : {S : Type 0} → ℕ → Answer ℕ S → Answer Stream S

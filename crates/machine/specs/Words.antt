@@ -1,25 +1,20 @@
 -- The table of answers: a word for each situation and letter, at a constant stride. A word of a refusal is below 4096; else it is 4096 times one
 -- more than the output, and the target.
 use Prim.Native.Nat.{ℕ, _+_, _-_, _*_, _/_, _%_}
+use mathlib.Core.Bool.{cond}
 use mathlib.Core.List.{List}
-use lib.ListN.{getD}
 use lib.Dec.{ltb}
+use Rattle.ground.specs.Bytes.{at}
+use Rattle.operations.specs.Alphabet.{stride}
 use Rattle.mealy.specs.Runs.{Answer, refused, taken, Machine}
-use Rattle.mealy.specs.Arrivals.{within, numbered}
+use Rattle.mealy.specs.Arrivals.{numbered}
 use Rattle.machine.specs.Index.{capacity}
-
-abbrev pub stride : ℕ
-stride = 20
 
 abbrev pub words : ℕ
 words = capacity * stride
 
--- what stands at a place
-abbrev pub at : List ℕ → ℕ → ℕ
-at l i = getD l i 0
-
 abbrev pub answer : ℕ → Answer ℕ ℕ
-answer w = within (ltb w 4096) refused (taken (w / 4096 - 1) (w % 4096))
+answer w = cond (ltb w 4096) refused (taken (w / 4096 - 1) (w % 4096))
 
 abbrev pub row : List ℕ → ℕ → ℕ → Answer ℕ ℕ
 row table i a = answer (at table (i * stride + a))
@@ -30,7 +25,7 @@ tabled letters table = numbered letters (row table)
 
 -- what a word shows of its situation, where situations have classes
 abbrev pub seen : List ℕ → ℕ → ℕ
-seen classes w = within (ltb w 4096) 0 (w / 4096 * 256 + at classes (w % 4096))
+seen classes w = cond (ltb w 4096) 0 (w / 4096 * 256 + at classes (w % 4096))
 
 -- the class of situation i with what letter a shows of it
 abbrev pub key : List ℕ → List ℕ → ℕ → ℕ → ℕ

@@ -1,10 +1,11 @@
 // Exploring breadth first from the fresh situation, letters in order: each unseen situation is put at the next place, and each candidate's word
 // into the table.
-ghost use mathlib.Core.Path.{_≡_};
 ghost use Prim.Native.Nat.{_+_, _*_, _<_, _≤_};
+ghost use mathlib.Core.Path.{_≡_};
 ghost use lib.ListN.{length};
+ghost use Rattle.operations.specs.Alphabet.{stride};
 ghost use Rattle.machine.specs.Index.{capacity, Index};
-ghost use Rattle.machine.specs.Words.{stride, words};
+ghost use Rattle.machine.specs.Words.{words};
 ghost use Rattle.machine.specs.Explore.{situationAt, Explored, Stored, Onward, Surveyed, Blank, Fresh};
 ghost use Rattle.machine.specs.Shim.{shimOf};
 use crate::index;

@@ -1,8 +1,8 @@
 // Pairs of numbers, in the order in which they were put, found again by a hash: the places of one bucket are a chain whose links fall, so a
 // search ends where its cursor does. The pair at place p is pairs[2 p] and pairs[2 p + 1]; bucket b's chain begins at links[b] and goes on from
 // place p at links[4096 + p].
-ghost use mathlib.Core.Path.{_≡_};
 ghost use Prim.Native.Nat.{_+_, _*_, _<_};
+ghost use mathlib.Core.Path.{_≡_};
 ghost use lib.ListN.{length};
 ghost use Rattle.machine.specs.Index.{bucketOf, capacity, Index, Holds, FoundAt, Pushed, Placed};
 

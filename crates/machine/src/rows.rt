@@ -1,10 +1,12 @@
 // The rows of the states, each read off the first situation of its class.
-ghost use mathlib.Core.Path.{_≡_};
 ghost use Prim.Native.Nat.{_+_, _*_, _<_, _≤_};
+ghost use mathlib.Core.Path.{_≡_};
 ghost use lib.ListN.{length};
+ghost use Rattle.ground.specs.Bytes.{at};
+ghost use Rattle.operations.specs.Alphabet.{stride};
 ghost use Rattle.mealy.specs.Classes.{Numbering};
 ghost use Rattle.machine.specs.Index.{capacity};
-ghost use Rattle.machine.specs.Words.{stride, words, at};
+ghost use Rattle.machine.specs.Words.{words};
 ghost use Rattle.machine.specs.Rows.{stateWord, stateEntry, RowWritten, RowsWritten, FirstWritten, Narrow};
 use crate::refine;
 

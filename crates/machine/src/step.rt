@@ -1,8 +1,8 @@
 // One step of the rule, by a letter of the alphabet.
-ghost use mathlib.Core.Path.{_≡_};
 ghost use Prim.Native.Nat.{_<_};
-ghost use Rattle.machine.specs.Shim.{kindOf, stepAnswer, letterAnswer, meant};
-use rule::operation::Kind;
+ghost use mathlib.Core.Path.{_≡_};
+ghost use Rattle.machine.specs.Shim.{stepAnswer, letterAnswer, meant};
+use operations::alphabet;
 use rule::situation::Situation;
 use rule::way;
 use rule::way::Step;
@@ -13,21 +13,6 @@ use tables::table::Table;
 pub enum Answered {
     Taken(usize, Situation),
     Refused,
-}
-
-fn kind_of(a: usize) -> Kind
-    ensures { λ r. ⌜ r ≡ kindOf a ⌝ }
-{
-    if a == 0 {
-        return Kind::Ld;
-    }
-    if a == 1 {
-        return Kind::Cld;
-    }
-    if a == 2 {
-        return Kind::St;
-    }
-    Kind::Cst
 }
 
 fn put_before(step: Step) -> Answered
@@ -52,7 +37,7 @@ pub(crate) fn answer<'a>(
     ensures { λ r. ⌜ meant r ≡ letterAnswer way (record { ppo = up; fences = now (ups .entry) }) (record { ppo = target; fences = now (fences .entry) }) s a ⌝ }
 {
     if a < 4 {
-        return put_before(way::take(way, up, target, fences, s, kind_of(a)));
+        return put_before(way::take(way, up, target, fences, s, alphabet::kind_of(a)));
     }
     Answered::Taken(255, s.asks(way::fence_table(ups, a - 4)))
 }

@@ -3,11 +3,11 @@
 // standard input, the sparing way and the full way: behind a heading, a name and two texts, with a bar behind each. These are at the limits: 4,096
 // situations and one more, 255 states and one more, and both too many.
 // The stored output comes from the model in `host/model`, which shares nothing with this code: `tools/expect-machine-cases` asks it for each pair.
+use answers::Verdict;
 use cases::fields::field;
 use machine::machine::Machine;
 use machine::machine::Outcome;
 use models::model::Model;
-use models::model::Verdict;
 use rule::way::Way;
 
 // Room for 255 states.

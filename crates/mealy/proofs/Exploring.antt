@@ -4,8 +4,8 @@ use mathlib.Core.Path.{_≡_, refl, sym, _∙_, ap}
 use mathlib.Core.Logic.{_⊎_, inl, inr, ⊎-elim}
 use mathlib.Core.List.{List, [], _∷_, _++_, append-nil}
 use native.Mathlib.Omega.{arith}
-use lib.ListN.{length, getD, length-append, List·getD-append}
 use native.Mathlib.Decide.{decLt, ℕ-discrete}
+use lib.ListN.{length, getD, length-append, List·getD-append}
 use lib.Seq.{getD-append-seam, append-snoc}
 use Rattle.mealy.specs.Runs.{Answer, refused, taken, Machine, go, ends, Accepted, AcceptedFrom, reached}
 use Rattle.mealy.specs.Order.{_≺_, _≼_, _▹_}

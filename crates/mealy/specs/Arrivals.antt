@@ -3,11 +3,11 @@
 -- The situations and the states are counted alike, each under its relation R: equality, and being the same state (`Same`).
 use Prim.Native.Nat.{ℕ, _≤_, _<_}
 use mathlib.Core.Path.{_≡_}
-use mathlib.Core.Bool.{Bool, true, false}
+use mathlib.Core.Bool.{cond}
 use mathlib.Core.List.{List, []}
+use borrow.Author.Tests.{le-ltb}
 use lib.ListN.{length, getD}
 use lib.Dec.{ltb}
-use borrow.Author.Tests.{le-ltb}
 use Rattle.mealy.specs.Runs.{Answer, refused, taken, Machine, Accepted, reached}
 use Rattle.mealy.specs.Order.{_≺_, _≼_}
 
@@ -65,11 +65,7 @@ pub record Described {S O : Type 0} (m : Machine S O) (R : S → S → Type 0) (
   pub count : length streams ≡ k
   pub rows : (i a : ℕ) → i < k → a < m .letters → Entry m R streams i a (row i a)
 
-abbrev pub within : {A : Type 0} → Bool → A → A → A
-within true x y = x
-within false x y = y
-
 -- the machine that rows over n letters describe, started at 0
 abbrev pub numbered : {O : Type 0} → ℕ → (ℕ → ℕ → Answer O ℕ) → Machine ℕ O
 numbered n row =
-    record { letters = n; step = λ i a. within (ltb a n) (row i a) refused; outside = λ i a h. rw (le-ltb a n h); fresh = 0 }
+    record { letters = n; step = λ i a. cond (ltb a n) (row i a) refused; outside = λ i a h. rw (le-ltb a n h); fresh = 0 }

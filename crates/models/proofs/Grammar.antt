@@ -1,26 +1,25 @@
 -- A text of the form, as Form says it, is one that is put together from the parts that the reader follows. Assumes nothing.
-use Prim.Native.Nat.{ℕ, zero, suc, _+_, _≤_, _<_, suc-le-suc, zero-le}
+use Prim.Native.Nat.{ℕ, zero, suc, _+_, _≤_, suc-le-suc}
 use mathlib.Core.Path.{_≡_, refl, sym, ap, ap₂, _∙_, subst}
-use mathlib.Core.Bool.{Bool, true, false, not, _&&_}
-use mathlib.Core.List.{List, [], _∷_, _++_, append-assoc, append-nil}
-use mathlib.Core.Logic.{_⊎_, inl, inr}
+use mathlib.Core.Bool.{Bool, true, false, not, _&&_, cond}
+use mathlib.Core.List.{List, [], _∷_, _++_, append-assoc}
+use mathlib.Core.Logic.{inl, inr}
 use native.Mathlib.Omega.{arith}
 use native.Mathlib.Nat.{le-of-suc-le-suc}
 use lib.Dec.{T, eqb, eqb→eq, eqb-refl}
 use lib.ListN.{length}
-use Rattle.tables.specs.declared.table.Table.{Table}
-use Rattle.tables.specs.Table.{choose, Clean}
+use Rattle.ground.specs.Bytes.{bytes}
+use Rattle.tables.specs.Table.{Clean}
 use Rattle.tables.proofs.Laws.{table-clean}
-use Rattle.models.specs.Bytes.{bytes}
-use Rattle.models.specs.Model.{Fence, Description, Each, NameFormed, FenceFormed, Formed}
+use Rattle.models.specs.Model.{Fence, Description, Each, FenceFormed}
 use Rattle.models.specs.Text.{tablePart, fenceText, fencesText, textOf}
 use Rattle.models.specs.Form.{Form}
-use Rattle.models.specs.Scan.{cellByte, fits, tablePattern}
+use Rattle.models.specs.Scan.{cellByte}
 use Rattle.models.specs.Reading.{tableIn}
-use Rattle.models.proofs.Language.{Language, Seq, seq-join, seq-apart}
+use Rattle.models.proofs.Language.{Seq, seq-join, seq-apart}
 use Rattle.models.proofs.Pattern.{Follows}
 use Rattle.models.proofs.NamePart.{Ended}
-use Rattle.models.proofs.Judgement.{EndLine, TablePart, FenceThen, Lines, TextForm}
+use Rattle.models.proofs.Judgement.{TablePart, FenceThen, Lines, TextForm}
 use Rattle.models.proofs.TableText.{part-follows, text-of-table}
 
 -- a word: a pattern without `?`
@@ -28,7 +27,7 @@ abbrev pub plain : List ℕ → Bool
 plain [] = true
 plain (p ∷ ps) = not (eqb p 63) && plain ps
 
-unmarked : (q r x y : Bool) → T (not q && r) → choose q x y ≡ y
+unmarked : (q r x y : Bool) → T (not q && r) → cond q x y ≡ y
 unmarked true r x y t = absurd t
 unmarked false r x y t = refl
 

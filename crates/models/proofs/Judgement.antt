@@ -1,32 +1,29 @@
 -- The reader refuses a text that is not of the form at its longest beginning that begins some text of the form: the parts of a text are put
 -- together by the laws of Language, and each kind of part has been proved once. Assumes nothing.
-use Prim.Native.Nat.{ℕ, zero, suc, _+_, _-_, _≤_, _<_}
+use Prim.Native.Nat.{ℕ, zero, suc, _+_, _-_, _≤_}
 use mathlib.Core.Path.{_≡_, refl, sym, ap, _∙_, subst}
-use mathlib.Core.Bool.{Bool, true, false}
+use mathlib.Core.Bool.{Bool, cond}
 use mathlib.Core.List.{List, [], _∷_, _++_, append-nil}
-use mathlib.Core.Logic.{_⊎_, inl, inr}
+use mathlib.Core.Logic.{inl, inr}
 use native.Mathlib.Omega.{arith}
 use native.Mathlib.Decide.{ℕ-discrete}
 use borrow.Author.Tests.{eq-eqb, ne-eqb}
 use lib.Dec.{T, eqb, eqb→eq}
-use lib.ListN.{length, take, drop, getD, length-append, length-drop}
+use lib.ListN.{length, take, drop, getD, length-drop}
 use lib.Seq.{length-take-le, take-length, drop-drop, getD-drop}
-use Rattle.tables.specs.Table.{choose}
+use Rattle.ground.specs.Bytes.{nameByte, bytes}
 use Rattle.answers.specs.declared.Refusal.{Refusal}
 use Rattle.models.specs.declared.scan.Step.{Step}
 use Rattle.models.specs.declared.scan.Line.{Line}
 use Rattle.models.specs.declared.scan.LineRead.{LineRead}
 use Rattle.models.specs.declared.model.Reading.{Reading}
 use Rattle.models.specs.declared.reader.Progress.{Progress}
-use Rattle.models.specs.Bytes.{bytes}
-use Rattle.models.specs.Model.{nameByte}
-use Rattle.models.specs.Form.{Begins, Longest}
 use Rattle.models.specs.Scan.{shift, follow, nameStep, followAt, nameAt, tablePattern}
 use Rattle.models.specs.Reading.{refusing, finished, onStep, onLine, after, lineEnd, ppoAt, headAt, fenceAt, fenceFrom, ended, linesFrom}
 use Rattle.models.proofs.Language.{Language, PrefixFree, Seq, Or, seq-join, Reads, found, stuck, Judged, judged-seq, judged-first, judged-iff, length-begun}
 use Rattle.models.proofs.Pattern.{Follows, length-follows, free-follows, sample, sample-follows, reads-follow}
 use Rattle.models.proofs.NamePart.{Ended, reads-name, free-ended}
-use Rattle.models.proofs.Steps.{lines-last, lines-end, lines-fence, afterHead}
+use Rattle.models.proofs.Steps.{afterHead}
 
 -- the forms of the parts
 abbrev pub EndLine : Language
@@ -74,7 +71,7 @@ judges-end t p at la = by (reads-follow (bytes "end\n") s)
     s = drop at t
 
     more : ℕ → Reading
-    more past = choose (eqb past (length t)) (finished p) (refusing (Refusal.NotOfTheForm past))
+    more past = cond (eqb past (length t)) (finished p) (refusing (Refusal.NotOfTheForm past))
 
     four : (a : List ℕ) → EndLine a → length a ≡ 4
     four a f = length-follows (bytes "end\n") a f
@@ -91,7 +88,7 @@ judges-end t p at la = by (reads-follow (bytes "end\n") s)
             longest = (λ j lj b. omega (arith, four (take j s ++ b .0) (b .1), length-begun s (b .0) j lj));
           },
           (λ l. ne (is ∙ sym (four s l))),
-          ap (λ (q : Bool). choose q (finished p) (refusing (Refusal.NotOfTheForm (at + n)))) (ne-eqb _ _ (λ (e : at + n ≡ length t). ne (omega (arith, length-drop at t)))),
+          ap (λ (q : Bool). cond q (finished p) (refusing (Refusal.NotOfTheForm (at + n)))) (ne-eqb _ _ (λ (e : at + n ≡ length t). ne (omega (arith, length-drop at t)))),
         )
 
     by : {r : Step} → Reads EndLine s r → Judged EndLine s at (onStep (shift at r) more)
@@ -199,14 +196,14 @@ judges-lines (suc n) t p at la = by (ℕ-discrete (getD t at 0) 102) (λ q. judg
 
     by : Dec (getD t at 0 ≡ 102) → ((q : Progress) → Judges (Lines n) t (linesFrom n t q)) → Judged (Lines (suc n)) s at (linesFrom (suc n) t p at)
     by (yes e) rest =
-        subst (λ (r : Reading). Judged (Lines (suc n)) s at r) (sym (ap (λ (q : Bool). choose q (onLine (fenceAt t at) next) (ended t p at)) (eq-eqb _ _ e)))
+        subst (λ (r : Reading). Judged (Lines (suc n)) s at r) (sym (ap (λ (q : Bool). cond q (onLine (fenceAt t at) next) (ended t p at)) (eq-eqb _ _ e)))
         (by-first (FenceThen (Lines n)) EndLine s at (onLine (fenceAt t at) next) 101 (λ z. tell (sym z ∙ head-is ∙ e)) ends-e
         (judges-fence t (Lines n) (some-lines n) next (λ name table place l. rest (fenceFrom t p (record { name = name; table = table; next = place })) place l) at la))
       where
         tell : _≡_ {A = ℕ} 101 102 → ⊥
         tell z = omega arith
     by (no ne) rest =
-        subst (λ (r : Reading). Judged (Lines (suc n)) s at r) (sym (ap (λ (q : Bool). choose q (onLine (fenceAt t at) next) (ended t p at)) (ne-eqb _ _ ne)))
+        subst (λ (r : Reading). Judged (Lines (suc n)) s at r) (sym (ap (λ (q : Bool). cond q (onLine (fenceAt t at) next) (ended t p at)) (ne-eqb _ _ ne)))
         (judged-iff (Or EndLine (FenceThen (Lines n))) (Lines (suc n)) (swap EndLine (FenceThen (Lines n))) (swap (FenceThen (Lines n)) EndLine) s at (ended t p at)
         (by-first EndLine (FenceThen (Lines n)) s at (ended t p at) 102 (λ z. ne (sym head-is ∙ z)) (fence-f (Lines n)) (judges-end t p at la)))
 

@@ -1,23 +1,22 @@
 -- Following a name and the byte after it: found whole, or stopped at the longest beginning that a name allows. Assumes nothing.
 use Prim.Native.Nat.{ℕ, zero, suc, _+_, _-_, _≤_, _<_, suc-le-suc, zero-le}
 use mathlib.Core.Path.{_≡_, refl, sym, ap, _∙_, subst}
-use mathlib.Core.Bool.{Bool, true, false}
+use mathlib.Core.Bool.{Bool, true, false, cond}
 use mathlib.Core.List.{List, [], _∷_, _++_, append-nil, append-assoc}
 use native.Mathlib.Omega.{arith}
 use native.Mathlib.Decide.{decLt, ℕ-discrete}
 use native.Mathlib.Nat.{le-of-suc-le-suc}
 use native.Mathlib.Numerals.{add-one}
-use borrow.Author.Tests.{lt-ltb, le-ltb, eq-eqb, ne-eqb, ltb-true, ltb-false, eqb-true, eqb-false}
-use lib.Dec.{T, eqb, ltb}
-use lib.ListN.{length, take, drop, getD, length-append, List·getD-append}
+use borrow.Author.Tests.{lt-ltb, le-ltb, eq-eqb, ne-eqb}
+use lib.Dec.{T}
+use lib.ListN.{length, take, getD, length-append, List·getD-append}
 use lib.Seq.{length-take-le, take-suc, getD-at, getD-take, take-at}
-use Rattle.tables.specs.Table.{choose}
+use Rattle.ground.specs.Bytes.{nameByte}
 use Rattle.models.specs.declared.scan.Step.{Step}
-use Rattle.models.specs.Form.{Begins, Longest}
-use Rattle.models.specs.Model.{nameByte, Each, NameFormed}
+use Rattle.models.specs.Form.{Begins}
+use Rattle.models.specs.Model.{Each, NameFormed}
 use Rattle.models.specs.Scan.{nameRun, endName, nameStep}
 use Rattle.models.proofs.Language.{Language, PrefixFree, Reads, found, stuck}
-use Rattle.models.proofs.Pattern.{chosen}
 
 abbrev pub NameBytes : List ℕ → Type 0
 NameBytes n = Each (λ (b : ℕ). T (nameByte b)) n
@@ -53,7 +52,7 @@ run-is (suc limit) [] = record { few = zero-le; within = zero-le; bytes = tt; en
 run-is (suc limit) (b ∷ s) = by (nameByte b) (λ t. t) (λ t. t) (run-is limit s)
   where
     by : (q : Bool) → (T q → T (nameByte b)) → (T (nameByte b) → T q) → Run limit s (nameRun limit s)
-        → Run (suc limit) (b ∷ s) (choose q (suc (nameRun limit s)) 0)
+        → Run (suc limit) (b ∷ s) (cond q (suc (nameRun limit s)) 0)
     by true to back r = run-more limit b s (nameRun limit s) (to tt) r
     by false to back r = record { few = zero-le; within = zero-le; bytes = tt; ends = (λ l ls t. back t) }
 

@@ -1,39 +1,19 @@
 -- Names as they are held: two are the same where their bytes are, and the zeros behind them add nothing. Assumes nothing.
-use Prim.Native.Nat.{ℕ, zero, suc, _+_, _-_, _≤_, _<_}
-use mathlib.Core.Path.{_≡_, refl, sym, ap, ap₂, _∙_, subst}
-use mathlib.Core.Bool.{Bool, true, false, _&&_, _||_}
+use Prim.Native.Nat.{ℕ, zero, suc, _+_, _-_, _<_}
+use mathlib.Core.Path.{_≡_, refl, sym, ap₂, subst}
+use mathlib.Core.Bool.{Bool, true, false, _||_}
 use mathlib.Core.List.{List, [], _∷_, _++_, map}
 use native.Mathlib.Omega.{arith}
 use native.Mathlib.Nat.{le-of-suc-le-suc}
-use lib.Dec.{T, eqb, eqb→eq, eqb-refl}
+use lib.Dec.{T}
 use lib.ListN.{length, getD, replicate}
+use Rattle.ground.proofs.Sameness.{same-is, same-own}
+use Rattle.ground.proofs.Truths.{is-true, holds}
+use Rattle.ground.specs.Bytes.{nameByte, sameBytes}
 use Rattle.models.specs.declared.model.Name.{Name}
-use Rattle.models.specs.Model.{Fence, nameByte, Each, NameFormed, FenceFormed}
-use Rattle.models.specs.Reading.{filled, sameBytes, among}
+use Rattle.models.specs.Model.{Fence, Each, FenceFormed}
+use Rattle.models.specs.Reading.{filled, among}
 use Rattle.models.proofs.NamePart.{NameBytes}
-
-holds : (q : Bool) → q ≡ true → T q
-holds q e = subst T (sym e) tt
-
-both : (a b : Bool) → T (a && b) → T a × T b
-both true b t = (tt, t)
-both false b t = absurd t
-
-is-true : (q : Bool) → T q → q ≡ true
-is-true true t = refl
-is-true false t = absurd t
-
-same-is : (a b : List ℕ) → T (sameBytes a b) → a ≡ b
-same-is [] [] t = refl
-same-is [] (y ∷ b) t = absurd t
-same-is (x ∷ a) [] t = absurd t
-same-is (x ∷ a) (y ∷ b) t =
-    let p = both (eqb x y) (sameBytes a b) t in
-    ap₂ (λ (z : ℕ) (l : List ℕ). z ∷ l) (eqb→eq x y (p .0)) (same-is a b (p .1))
-
-same-own : (a : List ℕ) → T (sameBytes a a)
-same-own [] = tt
-same-own (x ∷ a) = subst T (sym (ap (λ (q : Bool). q && sameBytes a a) (is-true (eqb x x) (eqb-refl x)))) (same-own a)
 
 -- a name without the zeros behind it
 pub strip : (a b : List ℕ) (p q : ℕ) → NameBytes a → NameBytes b → a ++ replicate p 0 ≡ b ++ replicate q 0 → a ≡ b
@@ -59,7 +39,7 @@ module _ (n : List ℕ) (hn : NameBytes n) (d : Fence) where
       by : (q : Bool) → (T q → T (sameBytes (filled (f .name) .bytes) (filled n .bytes))) → q || among (filled n) (heldNames fs) ≡ true
           → (among (filled n) (heldNames fs) ≡ true → (i : ℕ) × (i < length fs) × (getD fs i d .name ≡ n))
           → (i : ℕ) × (i < suc (length fs)) × (getD (f ∷ fs) i d .name ≡ n)
-      by true to e rest = (0, omega arith, strip (f .name) n (16 - length (f .name)) (16 - length n) (h .0 .name .bytes) hn (same-is (filled (f .name) .bytes) (filled n .bytes) (to tt)))
+      by true to e rest = (0, omega arith, strip (f .name) n (16 - length (f .name)) (16 - length n) (h .0 .name .bytes) hn (same-is (filled (f .name) .bytes) (filled n .bytes) (is-true (sameBytes (filled (f .name) .bytes) (filled n .bytes)) (to tt))))
       by false to e rest =
           let r = rest e in
           (suc (r .0), omega (arith, r .1), r .2)
@@ -72,5 +52,5 @@ module _ (n : List ℕ) (hn : NameBytes n) (d : Fence) where
           → q || among (filled n) (heldNames fs) ≡ false
           → (among (filled n) (heldNames fs) ≡ false → (i : ℕ) → i < length fs → getD fs i d .name ≡ n → ⊥) → ⊥
       by i l is true to e rest = let z : _≡_ {A = ℕ} 0 1 = cc in omega arith
-      by zero l is false to e rest = to (subst (λ (m : List ℕ). T (sameBytes (filled m .bytes) (filled n .bytes))) (sym is) (same-own (filled n .bytes)))
+      by zero l is false to e rest = to (subst (λ (m : List ℕ). T (sameBytes (filled m .bytes) (filled n .bytes))) (sym is) (holds (sameBytes (filled n .bytes) (filled n .bytes)) (same-own (filled n .bytes))))
       by (suc i) l is false to e rest = rest e i (le-of-suc-le-suc l) is

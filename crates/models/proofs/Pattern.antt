@@ -1,17 +1,15 @@
 -- Following a pattern: of a text either all of the pattern is found in front, or the steps stop at the longest beginning that it allows.
 -- Assumes nothing.
-use Prim.Native.Nat.{ℕ, zero, suc, _+_, _-_, _≤_, _<_, suc-le-suc, zero-le}
+use Prim.Native.Nat.{ℕ, zero, suc, _+_, _-_, _≤_, suc-le-suc, zero-le}
 use mathlib.Core.Path.{_≡_, refl, sym, ap, _∙_, subst}
-use mathlib.Core.Bool.{Bool, true, false}
-use mathlib.Core.List.{List, [], _∷_, _++_, map}
-use native.Mathlib.Omega.{arith}
+use mathlib.Core.Bool.{Bool, true, false, cond}
+use mathlib.Core.List.{List, [], _∷_, _++_}
 use native.Mathlib.Nat.{le-of-suc-le-suc}
 use lib.Dec.{T, eqb, eqb-refl}
-use lib.ListN.{length, take, drop, getD}
+use lib.ListN.{length, take}
 use lib.Seq.{length-take-le, take-nil}
-use Rattle.tables.specs.Table.{choose}
 use Rattle.models.specs.declared.scan.Step.{Step}
-use Rattle.models.specs.Form.{Begins, Longest}
+use Rattle.models.specs.Form.{Begins}
 use Rattle.models.specs.Scan.{cellByte, fits, further, follow}
 use Rattle.models.proofs.Language.{Language, PrefixFree, Reads, found, stuck}
 
@@ -35,12 +33,12 @@ free-follows ps s m n lm ln fm fn =
 -- a text that follows the pattern: what stands there, and `-` for a cell
 abbrev pub sample : List ℕ → List ℕ
 sample [] = []
-sample (p ∷ ps) = choose (eqb p 63) 45 p ∷ sample ps
+sample (p ∷ ps) = cond (eqb p 63) 45 p ∷ sample ps
 
-fits-sample : (p : ℕ) → T (fits p (choose (eqb p 63) 45 p))
+fits-sample : (p : ℕ) → T (fits p (cond (eqb p 63) 45 p))
 fits-sample p = by (eqb p 63)
   where
-    by : (q : Bool) → T (choose q (cellByte (choose q 45 p)) (eqb (choose q 45 p) p))
+    by : (q : Bool) → T (cond q (cellByte (cond q 45 p)) (eqb (cond q 45 p) p))
     by true = tt
     by false = eqb-refl p
 
@@ -48,7 +46,7 @@ pub sample-follows : (ps : List ℕ) → Follows ps (sample ps)
 sample-follows [] = tt
 sample-follows (p ∷ ps) = (fits-sample p, sample-follows ps)
 
-pub chosen : {A : Type 0} (q : Bool) (a b : A) → T q → choose q a b ≡ a
+pub chosen : {A : Type 0} (q : Bool) (a b : A) → T q → cond q a b ≡ a
 chosen true a b t = refl
 chosen false a b t = absurd t
 
@@ -106,6 +104,6 @@ reads-follow (p ∷ ps) [] = stuck
 reads-follow (p ∷ ps) (b ∷ s) = by (fits p b) (λ t. t) (λ t. t) (reads-follow ps s)
   where
     by : (q : Bool) → (T q → T (fits p b)) → (T (fits p b) → T q) → Reads (Follows ps) s (follow ps s)
-        → Reads (Follows (p ∷ ps)) (b ∷ s) (choose q (further (follow ps s)) (Step.Stuck 0))
+        → Reads (Follows (p ∷ ps)) (b ∷ s) (cond q (further (follow ps s)) (Step.Stuck 0))
     by true to back r = reads-more p b ps s (to tt) r
     by false to back r = reads-none p b ps s back

@@ -2,24 +2,21 @@
 -- them. Assumes nothing.
 use Prim.Native.Nat.{ℕ, zero, suc, _+_, _-_, _≤_, _<_}
 use mathlib.Core.Path.{_≡_, refl, sym, ap, ap₂, _∙_, subst}
-use mathlib.Core.Bool.{Bool, true, false}
-use mathlib.Core.List.{List, [], _∷_, _++_, map, append-assoc}
+use mathlib.Core.Bool.{Bool, true, false, cond}
+use mathlib.Core.List.{List, [], _∷_, _++_, map}
 use mathlib.Core.Logic.{_⊎_, inl, inr}
 use native.Mathlib.Omega.{arith}
-use native.Mathlib.Numerals.{add-one}
 use native.Mathlib.Decide.{ℕ-discrete}
 use borrow.Author.Tests.{eq-eqb, ne-eqb}
 use lib.Dec.{eqb}
-use lib.ListN.{length, take, drop, getD, set, replicate, length-append, length-map}
+use lib.ListN.{length, take, getD, set, replicate, length-append, length-map}
 use lib.Seq.{take-suc, take-at, length-take-le, set-append-seam, append-snoc, getD-take, take-length}
-use Rattle.tables.specs.declared.table.Table.{Table}
-use Rattle.tables.specs.Table.{choose}
 use Rattle.answers.specs.declared.Refusal.{Refusal}
 use Rattle.models.specs.declared.model.Name.{Name}
 use Rattle.models.specs.declared.model.Model.{Model}
 use Rattle.models.specs.declared.reader.Progress.{Progress}
 use Rattle.models.specs.Model.{Fence, Description, Each, NameFormed, FenceFormed, Formed}
-use Rattle.models.specs.Reading.{filled, padded, held, noFence, fenceOf, nameOf, nameStands, Repeats, EarliestRepeat, Distinct, among, repeatOf, withFence, finished, accepting, refusing}
+use Rattle.models.specs.Reading.{filled, padded, held, noFence, fenceOf, nameOf, nameStands, Repeats, EarliestRepeat, Distinct, among, finished, accepting, refusing}
 use Rattle.models.proofs.NamePart.{each-at}
 use Rattle.models.proofs.Names.{heldNames, among-found, among-none}
 use Rattle.models.proofs.Reread.{pushed}
@@ -115,7 +112,7 @@ module _ (d : Description) where
         there : (i : ℕ) → i < k → getD (take k (d .fences)) i noFence .name ≡ nameOf d i
         there i li = ap (λ (f : Fence). f .name) (getD-take k (d .fences) i _ li)
 
-        fresh : (q : Bool) → found ≡ q → r ≡ 0 → ((j : ℕ) → j < k → Repeats d j → ⊥) → Kept (suc k) (choose q (nameStands d k) 0)
+        fresh : (q : Bool) → found ≡ q → r ≡ 0 → ((j : ℕ) → j < k → Repeats d j → ⊥) → Kept (suc k) (cond q (nameStands d k) 0)
         fresh true e z none =
             let f = among-found (nameOf d k) (name-well k l .bytes) noFence (take k (d .fences)) (first-each k (d .fences) (h .each)) (sym found-is ∙ e) in
             let li : f .0 < k = omega (arith, f .1, long) in
@@ -132,10 +129,10 @@ module _ (d : Description) where
                     among-none (nameOf d k) (name-well k l .bytes) noFence (take k (d .fences)) (sym found-is ∙ e) i (omega (arith, long))
                     (there i l' ∙ same ∙ ap (nameOf d) e')
 
-        by : Kept k r → Kept (suc k) (choose (eqb r 0) (choose found (nameStands d k) 0) r)
-        by (inl (z, none)) = subst (λ (q : Bool). Kept (suc k) (choose q (choose found (nameStands d k) 0) r)) (sym (eq-eqb r 0 z)) (fresh found refl z none)
+        by : Kept k r → Kept (suc k) (cond (eqb r 0) (cond found (nameStands d k) 0) r)
+        by (inl (z, none)) = subst (λ (q : Bool). Kept (suc k) (cond q (cond found (nameStands d k) 0) r)) (sym (eq-eqb r 0 z)) (fresh found refl z none)
         by (inr (j, lj, e, is)) =
-            subst (λ (q : Bool). Kept (suc k) (choose q (choose found (nameStands d k) 0) r)) (sym (ne-eqb r 0 (λ z. omega arith))) (inr (j, omega arith, e, is))
+            subst (λ (q : Bool). Kept (suc k) (cond q (cond found (nameStands d k) 0) r)) (sym (ne-eqb r 0 (λ z. omega arith))) (inr (j, omega arith, e, is))
 
     -- after all of them
     all-kept : Kept (length (d .fences)) (pushed d (length (d .fences)) .repeat)
@@ -160,11 +157,11 @@ module _ (d : Description) where
 
       by : Kept h (length (d .fences)) (p .repeat) → Ends
       by (inl (z, none)) =
-          inl (ap (λ (q : Bool). choose q (accepting (p .model)) (refusing (Refusal.FenceNameRepeats (p .repeat)))) (eq-eqb (p .repeat) 0 z) ∙ ap accepting (all-held h), none)
+          inl (ap (λ (q : Bool). cond q (accepting (p .model)) (refusing (Refusal.FenceNameRepeats (p .repeat)))) (eq-eqb (p .repeat) 0 z) ∙ ap accepting (all-held h), none)
       by (inr (k, lk, e, is)) =
           inr (
             k,
             e,
-            ap (λ (q : Bool). choose q (accepting (p .model)) (refusing (Refusal.FenceNameRepeats (p .repeat)))) (ne-eqb (p .repeat) 0 (λ z. omega arith))
+            ap (λ (q : Bool). cond q (accepting (p .model)) (refusing (Refusal.FenceNameRepeats (p .repeat)))) (ne-eqb (p .repeat) 0 (λ z. omega arith))
                 ∙ ap (λ (n : ℕ). refusing (Refusal.FenceNameRepeats n)) is,
           )

@@ -1,26 +1,23 @@
 -- Reading the text of a model, line by line: the reader goes through the model's own fences. Assumes nothing.
 use Prim.Native.Nat.{ℕ, zero, suc, _+_, _-_, _≤_, _<_}
-use mathlib.Core.Path.{_≡_, refl, sym, ap, ap₂, _∙_, subst}
-use mathlib.Core.Bool.{Bool, true, false}
+use mathlib.Core.Path.{_≡_, refl, sym, ap, ap₂, _∙_}
+use mathlib.Core.Bool.{Bool, true, false, cond}
 use mathlib.Core.List.{List, [], _∷_, _++_, append-assoc, append-nil}
 use native.Mathlib.Omega.{arith}
 use native.Mathlib.Nat.{le-of-suc-le-suc, add-zero}
-use native.Mathlib.Numerals.{add-one}
-use borrow.Author.Tests.{eq-eqb, ne-eqb}
+use borrow.Author.Tests.{eq-eqb}
 use lib.Dec.{T, eqb}
 use lib.ListN.{length, take, drop, getD, length-append, length-drop, take-append-drop}
 use lib.Seq.{drop-drop, drop-at, take-at, drop-cons, getD-drop, take-suc, drop-length}
-use Rattle.tables.specs.declared.table.Table.{Table}
-use Rattle.tables.specs.Table.{choose, Clean}
+use Rattle.ground.specs.Bytes.{nameByte, bytes}
 use Rattle.answers.specs.declared.Refusal.{Refusal}
+use Rattle.tables.specs.declared.table.Table.{Table}
+use Rattle.tables.specs.Table.{Clean}
 use Rattle.models.specs.declared.scan.Step.{Step}
-use Rattle.models.specs.declared.scan.Line.{Line}
 use Rattle.models.specs.declared.scan.LineRead.{LineRead}
 use Rattle.models.specs.declared.model.Name.{Name}
-use Rattle.models.specs.declared.model.Reading.{Reading}
 use Rattle.models.specs.declared.reader.Progress.{Progress}
-use Rattle.models.specs.Bytes.{bytes}
-use Rattle.models.specs.Model.{Fence, Description, Each, nameByte, NameFormed, FenceFormed, Formed}
+use Rattle.models.specs.Model.{Fence, Description, NameFormed, FenceFormed, Formed}
 use Rattle.models.specs.Text.{tablePart, fenceText, fencesText, headText, textOf}
 use Rattle.models.specs.Scan.{nameRun, shift, follow, nameStep, followAt, nameAt, tablePattern}
 use Rattle.models.specs.Reading.{refusing, filled, nameIn, tableIn, fenceOf, nameOf, lineStands, nameStands, started, withFence, finished, onStep, onLine, after, lineEnd, ppoAt, headAt, fenceAt, fenceFrom, ended, linesFrom, reading}
@@ -37,7 +34,7 @@ run-whole zero [] rest e h l not-name = refl
 run-whole zero (b ∷ n) rest e h l not-name = absurd (omega arith)
 run-whole (suc limit) [] rest e h l not-name = by (nameByte e) not-name
   where
-    by : (q : Bool) → (T q → ⊥) → choose q (suc (nameRun limit rest)) 0 ≡ 0
+    by : (q : Bool) → (T q → ⊥) → cond q (suc (nameRun limit rest)) 0 ≡ 0
     by true h = absurd (h tt)
     by false h = refl
 run-whole (suc limit) (b ∷ n) rest e h l not-name =
@@ -120,9 +117,9 @@ end-line : (t : List ℕ) (p : Progress) (at : ℕ) → at ≤ length t → drop
 unfolding ended
 end-line t p at l is =
     let long : at + 4 ≡ length t = omega (arith, length-drop at t, ap length is) in
-    ap (λ (s : Step). onStep s (λ past. choose (eqb past (length t)) (finished p) (refusing (Refusal.NotOfTheForm past))))
+    ap (λ (s : Step). onStep s (λ past. cond (eqb past (length t)) (finished p) (refusing (Refusal.NotOfTheForm past))))
     (followed (bytes "end\n") t (bytes "end\n") [] at is (own-word (bytes "end\n") tt))
-    ∙ ap (λ (q : Bool). choose q (finished p) (refusing (Refusal.NotOfTheForm (at + 4)))) (eq-eqb _ _ long)
+    ∙ ap (λ (q : Bool). cond q (finished p) (refusing (Refusal.NotOfTheForm (at + 4)))) (eq-eqb _ _ long)
 
 -- the two lines above the fences
 module _ (t : List ℕ) (n : List ℕ) (x : Table) (tail : List ℕ) (named-well : NameFormed n) (clean : Clean x)

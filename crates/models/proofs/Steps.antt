@@ -1,27 +1,24 @@
 -- One byte more of a pattern or of a name, at a place of the whole text: what the loops of `scan` go by. Assumes nothing.
 use Prim.Native.Nat.{ℕ, zero, suc, _+_, _-_, _≤_, _<_}
 use mathlib.Core.Path.{_≡_, refl, sym, ap, ap₂, subst, _∙_}
-use mathlib.Core.Bool.{Bool, true, false}
-use mathlib.Core.List.{List, [], _∷_}
+use mathlib.Core.Bool.{Bool, true, false, cond}
+use mathlib.Core.List.{List}
 use native.Mathlib.Omega.{arith}
 use native.Mathlib.Nat.{add-zero}
 use native.Mathlib.Numerals.{add-one}
 use native.Mathlib.Decide.{decLt, ℕ-discrete}
 use borrow.Author.Tests.{eq-eqb, ne-eqb, lt-ltb, le-ltb}
-use lib.Dec.{T, eqb, ltb}
 use lib.ListN.{length, take, drop, getD, drop-of-length-le, length-drop}
 use lib.Seq.{drop-cons, getD-drop, length-take-le}
-use Rattle.tables.specs.declared.table.Table.{Table}
-use Rattle.tables.specs.Table.{choose}
-use Rattle.models.specs.declared.scan.Step.{Step}
+use Rattle.ground.specs.Bytes.{nameByte, bytes}
 use Rattle.answers.specs.declared.Refusal.{Refusal}
+use Rattle.tables.specs.declared.table.Table.{Table}
+use Rattle.models.specs.declared.scan.Step.{Step}
 use Rattle.models.specs.declared.scan.Line.{Line}
 use Rattle.models.specs.declared.scan.LineRead.{LineRead}
 use Rattle.models.specs.declared.model.Name.{Name}
 use Rattle.models.specs.declared.model.Reading.{Reading}
 use Rattle.models.specs.declared.reader.Progress.{Progress}
-use Rattle.models.specs.Bytes.{bytes}
-use Rattle.models.specs.Model.{nameByte}
 use Rattle.models.specs.Scan.{fits, shift, further, follow, followAt, nameRun, endName, nameStep, nameAt, tablePattern}
 use Rattle.models.specs.Reading.{after, lineEnd, ppoAt, onStep, onLine, refusing, ended, headAt, fenceAt, nameIn, tableIn, started, repeatOf, withFence, fenceFrom, linesFrom, reading}
 use Rattle.models.proofs.Language.{Reads, found, stuck}
@@ -48,7 +45,7 @@ module _ (ps t : List ℕ) (i here : ℕ) (li : i < length ps) where
       let D : List ℕ = drop (suc i) ps in
       let E : List ℕ = drop (suc here) t in
       ap₂ (λ (a b : List ℕ). shift here (follow a b)) (drop-cons ps i 0 li) (drop-cons t here 0 l)
-      ∙ ap (λ (q : Bool). shift here (choose q (further (follow D E)) (Step.Stuck 0))) f
+      ∙ ap (λ (q : Bool). shift here (cond q (further (follow D E)) (Step.Stuck 0))) f
       ∙ shift-further here (follow D E)
       ∙ ap₂ (λ (m n : ℕ). shift (here + 1) (follow (drop m ps) (drop n t))) (sym (add-one i)) (sym (add-one here))
 
@@ -72,7 +69,7 @@ module _ (t : List ℕ) (here n all limit : ℕ) (h : all ≡ n + nameRun limit 
     where
       none : (k : ℕ) → nameRun k (drop here t) ≡ 0
       none zero = refl
-      none (suc k) = ap (nameRun (suc k)) (drop-cons t here 0 l) ∙ ap (λ (q : Bool). choose q (suc (nameRun k (drop (suc here) t))) 0) f
+      none (suc k) = ap (nameRun (suc k)) (drop-cons t here 0 l) ∙ ap (λ (q : Bool). cond q (suc (nameRun k (drop (suc here) t))) 0) f
 
   pub run-full : limit ≡ 0 → n ≡ all
   unfolding nameRun
@@ -88,7 +85,7 @@ run-more t here n ln l f =
     let k : ℕ = 16 - (n + 1) in
     let e : 16 - n ≡ suc k = omega arith in
     let one : nameRun (suc k) (drop here t) ≡ suc (nameRun k (drop (suc here) t)) =
-    ap (nameRun (suc k)) (drop-cons t here 0 l) ∙ ap (λ (q : Bool). choose q (suc (nameRun k (drop (suc here) t))) 0) f in
+    ap (nameRun (suc k)) (drop-cons t here 0 l) ∙ ap (λ (q : Bool). cond q (suc (nameRun k (drop (suc here) t))) 0) f in
     let up : nameRun k (drop (suc here) t) ≡ nameRun k (drop (here + 1) t) = ap (λ (m : ℕ). nameRun k (drop m t)) (sym (add-one here)) in
     let whole : nameRun (16 - n) (drop here t) ≡ suc (nameRun k (drop (here + 1) t)) = ap (λ (m : ℕ). nameRun m (drop here t)) e ∙ one ∙ ap suc up in
     omega arith
@@ -227,7 +224,7 @@ module _ (t : List ℕ) (p : Progress) (here : ℕ) where
       ap (λ (k : ℕ). linesFrom k t p here) e
       ∙ ap
       (λ (q : Bool).
-      choose q (onLine (fenceAt t here) (λ line. linesFrom n t (fenceFrom t p line) (line .next))) (ended t p here))
+      cond q (onLine (fenceAt t here) (λ line. linesFrom n t (fenceFrom t p line) (line .next))) (ended t p here))
       (eq-eqb _ _ h)
 
 -- what is stored of a fence's line

@@ -1,7 +1,7 @@
 -- The text of a table and the table in a text undo each other. Assumes nothing.
-use Prim.Native.Nat.{ℕ, zero, suc, _+_, _*_, _≤_, _<_}
+use Prim.Native.Nat.{ℕ, zero, suc, _+_, _*_, _<_}
 use mathlib.Core.Path.{_≡_, refl, sym, ap, _∙_, subst}
-use mathlib.Core.Bool.{Bool, true, false, _||_}
+use mathlib.Core.Bool.{Bool, true, false, _||_, cond}
 use mathlib.Core.List.{List, [], _∷_, _++_}
 use mathlib.Core.Logic.{_⊎_, inl, inr}
 use native.Mathlib.Omega.{arith}
@@ -11,8 +11,8 @@ use lib.ListN.{length, getD}
 use Rattle.tables.specs.declared.table.Table.{Table}
 use Rattle.tables.specs.declared.table.Row.{Row}
 use Rattle.tables.specs.declared.table.Column.{Column}
-use Rattle.tables.specs.Table.{rowNumber, columnNumber, choose, cell, table, Clean}
-use Rattle.tables.proofs.Laws.{row-below, column-below, cell-below, cell-made, table-cong, table-own, table-clean}
+use Rattle.tables.specs.Table.{rowNumber, columnNumber, cell, Clean}
+use Rattle.tables.proofs.Laws.{row-below, column-below, cell-below, cell-made, table-cong, table-own}
 use Rattle.models.specs.Text.{letter, tablePart}
 use Rattle.models.specs.Scan.{cellByte, fits, tablePattern, levelOf}
 use Rattle.models.specs.Reading.{tableIn}
@@ -56,7 +56,7 @@ module _ (b : ℕ) where
 level-below : (b : ℕ) → levelOf b < 4
 level-below b = by (eqb b 78) (eqb b 77) (eqb b 83)
   where
-    by : (n m s : Bool) → choose n 1 (choose m 2 (choose s 3 0)) < 4
+    by : (n m s : Bool) → cond n 1 (cond m 2 (cond s 3 0)) < 4
     by true m s = lit< tt
     by false true s = lit< tt
     by false false true = lit< tt
@@ -65,7 +65,7 @@ level-below b = by (eqb b 78) (eqb b 77) (eqb b 83)
 letter-cell : (n : ℕ) → T (cellByte (letter n))
 letter-cell n = by (eqb n 0) (eqb n 1) (eqb n 2)
   where
-    by : (x y z : Bool) → T (cellByte (choose x 45 (choose y 78 (choose z 77 83))))
+    by : (x y z : Bool) → T (cellByte (cond x 45 (cond y 78 (cond z 77 83))))
     by true y z = tt
     by false true z = tt
     by false false true = tt

@@ -1,22 +1,19 @@
 -- What the reader takes out of a text, byte by byte: a name, a table, whether two names are the same. Assumes nothing.
-use Prim.Native.Nat.{ℕ, zero, suc, _+_, _*_, _-_, _/_, _≤_, _<_}
-use mathlib.Core.Path.{_≡_, refl, sym, ap, ap₂, _∙_}
-use mathlib.Core.Bool.{Bool, true, false, _&&_, _||_}
-use mathlib.Core.List.{List, [], _∷_, _++_}
+use Prim.Native.Nat.{ℕ, suc, _+_, _*_, _-_, _/_, _≤_, _<_}
+use mathlib.Core.Path.{_≡_, sym, ap, ap₂, _∙_}
+use mathlib.Core.Bool.{Bool, true, false, _||_}
+use mathlib.Core.List.{List, _++_}
 use native.Mathlib.Omega.{arith}
 use native.Mathlib.Numerals.{add-one}
 use native.Mathlib.Decide.{ℕ-discrete}
-use borrow.Author.Tests.{eq-eqb, ne-eqb}
-use lib.Dec.{eqb, lit<}
 use lib.ListN.{length, take, drop, getD, set, replicate, drop-of-length-le}
 use lib.Seq.{length-take-le, take-suc, drop-cons, set-at, append-snoc, getD-set-same, getD-set-other}
-use Rattle.tables.specs.declared.table.Row.{Row}
-use Rattle.tables.specs.declared.table.Column.{Column}
+use Rattle.ground.specs.Bytes.{sameBytes}
 use Rattle.tables.specs.Table.{place, rowNumber, columnNumber, levelsTable}
 use Rattle.tables.proofs.Laws.{table-cong, row-below, column-below}
 use Rattle.models.specs.declared.model.Name.{Name}
-use Rattle.models.specs.Scan.{levelOf, nameRun}
-use Rattle.models.specs.Reading.{filled, nameIn, tableIn, sameBytes, among}
+use Rattle.models.specs.Scan.{levelOf}
+use Rattle.models.specs.Reading.{filled, tableIn, among}
 
 -- the next byte of a name, in place of a zero
 pub name-more : (s : List ℕ) (i : ℕ) → i < length s → i < 16
@@ -51,20 +48,6 @@ levels-read s levels h = table-cong _ _ λ r c.
     let narrow = column-below c in
     let e : place r c + place r c / 4 ≡ 5 * rowNumber r + columnNumber c = omega arith in
     h (place r c) (omega arith) ∙ ap (λ (i : ℕ). levelOf (getD s i 0)) e
-
--- two names, compared up to a place
-module _ (a b : List ℕ) (i : ℕ) (la : i < length a) (lb : i < length b) where
-  pub same-not : (getD a i 0 ≡ getD b i 0 → ⊥) → sameBytes (drop i a) (drop i b) ≡ false
-  same-not h = rw (drop-cons a i 0 la, drop-cons b i 0 lb) (rw (ne-eqb _ _ h))
-
-  pub same-more : getD a i 0 ≡ getD b i 0 → sameBytes (drop i a) (drop i b) ≡ sameBytes (drop (i + 1) a) (drop (i + 1) b)
-  same-more h =
-      ap₂ sameBytes (drop-cons a i 0 la) (drop-cons b i 0 lb)
-      ∙ ap (λ (q : Bool). q && sameBytes (drop (suc i) a) (drop (suc i) b)) (eq-eqb _ _ h)
-      ∙ ap (λ (n : ℕ). sameBytes (drop n a) (drop n b)) (sym (add-one i))
-
-pub same-done : (a b : List ℕ) (i : ℕ) → length a ≤ i → length b ≤ i → sameBytes (drop i a) (drop i b) ≡ true
-same-done a b i la lb = rw (drop-of-length-le a la, drop-of-length-le b lb)
 
 -- a name looked for among others, from a place on
 module _ (n : Name) (l : List Name) (i : ℕ) (d : Name) where

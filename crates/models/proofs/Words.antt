@@ -1,6 +1,6 @@
 -- What the reader answers is what 01's words say, and nothing else is. Assumes nothing.
-use Prim.Native.Nat.{ℕ, zero, suc, _+_, _≤_, _<_}
-use mathlib.Core.Path.{_≡_, refl, sym, ap, _∙_, subst}
+use Prim.Native.Nat.{ℕ, _≤_}
+use mathlib.Core.Path.{_≡_, sym, ap, _∙_, subst}
 use mathlib.Core.List.{List}
 use mathlib.Core.Logic.{_⊎_, inl, inr}
 use native.Mathlib.Omega.{arith}
@@ -12,7 +12,7 @@ use Rattle.models.specs.declared.model.Reading.{Reading}
 use Rattle.models.specs.Model.{Description, Formed}
 use Rattle.models.specs.Text.{textOf}
 use Rattle.models.specs.Form.{Form, Longest}
-use Rattle.models.specs.Reading.{refusing, accepting, held, nameStands, finished, onLine, headAt, EarliestRepeat, Distinct, Told, over, departs, repeated, accepted, reading}
+use Rattle.models.specs.Reading.{refusing, accepting, held, nameStands, finished, onLine, headAt, EarliestRepeat, Told, over, departs, repeated, accepted, reading}
 use Rattle.models.proofs.Language.{Judged, judged-iff}
 use Rattle.models.proofs.Judgement.{TextForm, judges-text}
 use Rattle.models.proofs.Grammar.{text-to, text-back}

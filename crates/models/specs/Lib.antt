@@ -1,4 +1,3 @@
-pub mod Bytes
 pub mod Model
 pub mod Text
 pub mod Form

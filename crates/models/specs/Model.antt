@@ -1,10 +1,10 @@
 -- Document 01: "A model has a name, a default table (ppo) and 0 to 16 fences, each a name and a table." "Names are 1 to 16 ASCII letters,
 -- digits or underscores; letter case counts."
 use Prim.Native.Nat.{ℕ, _≤_}
-use mathlib.Core.Bool.{Bool, _&&_, _||_}
 use mathlib.Core.List.{List, [], _∷_}
-use lib.Dec.{T, leb, eqb}
+use lib.Dec.{T}
 use lib.ListN.{length}
+use Rattle.ground.specs.Bytes.{nameByte}
 use Rattle.tables.specs.declared.table.Table.{Table}
 use Rattle.tables.specs.Table.{Clean}
 
@@ -16,13 +16,6 @@ pub record Description : Type 0 where
   pub name : List ℕ
   pub ppo : Table
   pub fences : List Fence
-
-abbrev pub between : ℕ → ℕ → ℕ → Bool
-between low high b = leb low b && leb b high
-
--- a digit, a letter or an underscore
-abbrev pub nameByte : ℕ → Bool
-nameByte b = between 48 57 b || between 65 90 b || between 97 122 b || eqb b 95
 
 abbrev pub Each : {A : Type 0} → (A → Type 0) → List A → Type 0
 Each P [] = Unit

@@ -5,24 +5,24 @@
 -- 01's own words: `reading` is proved to meet them, and nothing else does (proofs/Words).
 use Prim.Native.Nat.{ℕ, zero, suc, _+_, _*_, _-_, _≤_, _<_}
 use mathlib.Core.Path.{_≡_}
-use mathlib.Core.Bool.{Bool, true, false, _&&_, _||_}
+use mathlib.Core.Bool.{Bool, false, _||_, cond}
 use mathlib.Core.List.{List, [], _∷_, _++_, map}
 use lib.Dec.{eqb, ltb}
 use lib.ListN.{length, getD, take, drop, set, replicate}
+use Rattle.ground.specs.Bytes.{bytes, sameBytes}
+use Rattle.answers.specs.declared.Refusal.{Refusal}
+use Rattle.answers.specs.declared.Verdict.{Verdict}
 use Rattle.tables.specs.declared.table.Table.{Table}
 use Rattle.tables.specs.declared.table.Row.{Row}
 use Rattle.tables.specs.declared.table.Column.{Column}
-use Rattle.tables.specs.Table.{rowNumber, columnNumber, choose, table}
-use Rattle.answers.specs.declared.Refusal.{Refusal}
+use Rattle.tables.specs.Table.{rowNumber, columnNumber, table}
 use Rattle.models.specs.declared.scan.Step.{Step}
 use Rattle.models.specs.declared.scan.Line.{Line}
 use Rattle.models.specs.declared.scan.LineRead.{LineRead}
 use Rattle.models.specs.declared.model.Name.{Name}
 use Rattle.models.specs.declared.model.Model.{Model}
-use Rattle.models.specs.declared.model.Verdict.{Verdict}
 use Rattle.models.specs.declared.model.Reading.{Reading}
 use Rattle.models.specs.declared.reader.Progress.{Progress}
-use Rattle.models.specs.Bytes.{bytes}
 use Rattle.models.specs.Model.{Fence, Description, Formed}
 use Rattle.models.specs.Text.{headText, fencesText, textOf}
 use Rattle.models.specs.Form.{Form, Longest}
@@ -127,12 +127,6 @@ nameIn s = filled (take (nameRun 16 s) s)
 unfoldable pub tableIn : List ℕ → Table
 tableIn s = table (λ (r : Row) (c : Column). levelOf (getD s (5 * rowNumber r + columnNumber c) 0))
 
-abbrev pub sameBytes : List ℕ → List ℕ → Bool
-sameBytes [] [] = true
-sameBytes [] (y ∷ ys) = false
-sameBytes (x ∷ xs) [] = false
-sameBytes (x ∷ xs) (y ∷ ys) = eqb x y && sameBytes xs ys
-
 abbrev pub among : Name → List Name → Bool
 among n [] = false
 among n (m ∷ ms) = sameBytes (m .bytes) (n .bytes) || among n ms
@@ -142,7 +136,7 @@ started name ppo = record { model = bare name ppo; repeat = 0 }
 
 -- one fence more; the place of the first name that stood above already is kept (0 while there is none: no fence name stands at 0)
 abbrev pub repeatOf : Progress → Name → ℕ → ℕ
-repeatOf p name at = choose (eqb (p .repeat) 0) (choose (among name (take (p .model .fences) (p .model .names))) at 0) (p .repeat)
+repeatOf p name at = cond (eqb (p .repeat) 0) (cond (among name (take (p .model .fences) (p .model .names))) at 0) (p .repeat)
 
 abbrev pub withFence : Progress → Name → ℕ → Table → Progress
 withFence p name at table = record {
@@ -160,22 +154,22 @@ abbrev pub fenceFrom : List ℕ → Progress → Line → Progress
 fenceFrom t p line = withFence p (nameIn (drop (line .name) t)) (line .name) (tableIn (drop (line .table) t))
 
 abbrev pub finished : Progress → Reading
-finished p = choose (eqb (p .repeat) 0) (accepting (p .model)) (refusing (Refusal.FenceNameRepeats (p .repeat)))
+finished p = cond (eqb (p .repeat) 0) (accepting (p .model)) (refusing (Refusal.FenceNameRepeats (p .repeat)))
 
 -- the last line, after which nothing may stand
 unfoldable pub ended : List ℕ → Progress → ℕ → Reading
 ended t p at =
-    onStep (followAt (bytes "end\n") t at) λ past. choose (eqb past (length t)) (finished p) (refusing (Refusal.NotOfTheForm past))
+    onStep (followAt (bytes "end\n") t at) λ past. cond (eqb past (length t)) (finished p) (refusing (Refusal.NotOfTheForm past))
 
 -- at most so many fences, and the last line
 unfoldable pub linesFrom : ℕ → List ℕ → Progress → ℕ → Reading
 linesFrom zero t p at = ended t p at
 linesFrom (suc left) t p at =
-    choose (eqb (getD t at 0) 102)
+    cond (eqb (getD t at 0) 102)
     (onLine (fenceAt t at) λ line. linesFrom left t (fenceFrom t p line) (line .next))
     (ended t p at)
 
 unfoldable pub reading : List ℕ → Reading
 reading t =
-    choose (ltb 1024 (length t)) (refusing Refusal.OverLimit)
+    cond (ltb 1024 (length t)) (refusing Refusal.OverLimit)
     (onLine (headAt t) λ line. linesFrom 16 t (started (nameIn (drop (line .name) t)) (tableIn (drop (line .table) t))) (line .next))

@@ -3,18 +3,19 @@
 -- access in the order ld, cld, st, cst". The model's text is shown there by an example; "Single spaces, a line feed after each line and
 -- nothing else." "Each model has exactly one text."
 use Prim.Native.Nat.{ℕ}
+use mathlib.Core.Bool.{cond}
 use mathlib.Core.List.{List, [], _∷_, _++_}
 use lib.Dec.{eqb}
+use Rattle.ground.specs.Bytes.{bytes}
 use Rattle.tables.specs.declared.table.Table.{Table}
 use Rattle.tables.specs.declared.table.Row.{Row}
 use Rattle.tables.specs.declared.table.Column.{Column}
-use Rattle.tables.specs.Table.{cell, choose}
-use Rattle.models.specs.Bytes.{bytes}
+use Rattle.tables.specs.Table.{cell}
 use Rattle.models.specs.Model.{Fence, Description}
 
 -- the letter of a level: `-`, `N`, `M`, `S`
 abbrev pub letter : ℕ → ℕ
-letter level = choose (eqb level 0) 45 (choose (eqb level 1) 78 (choose (eqb level 2) 77 83))
+letter level = cond (eqb level 0) 45 (cond (eqb level 1) 78 (cond (eqb level 2) 77 83))
 
 abbrev pub rowText : Table → Row → List ℕ
 rowText t r =

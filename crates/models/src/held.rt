@@ -5,8 +5,8 @@ ghost use Rattle.models.specs.Reading.{filled, bare, refusing};
 use crate::model::Model;
 use crate::model::Name;
 use crate::model::Reading;
-use crate::model::Verdict;
 use answers::Refusal;
+use answers::Verdict;
 use tables::table::Table;
 
 // The first bytes of a text as a name: at most sixteen.

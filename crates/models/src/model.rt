@@ -1,5 +1,5 @@
 // A model in memory, by value.
-use answers::Refusal;
+use answers::Verdict;
 use tables::table::Table;
 
 // A name of 1 to 16 bytes, filled up with zeros.
@@ -14,11 +14,6 @@ pub struct Model {
     pub tables: [u64; 16],
     pub name: Name,
     pub names: [Name; 16],
-}
-
-pub enum Verdict {
-    Accepted,
-    Refused(Refusal),
 }
 
 // An enum may hold no array, so the model stands beside the verdict. Where the text is refused it holds nothing.

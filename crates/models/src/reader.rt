@@ -1,21 +1,22 @@
 // The reader: from a text to a model.
-ghost use mathlib.Core.Path.{_≡_};
 ghost use Prim.Native.Nat.{_+_, _≤_};
+ghost use mathlib.Core.Path.{_≡_};
+ghost use mathlib.Core.Bool.{cond};
 ghost use lib.Dec.{eqb};
 ghost use lib.ListN.{length, take, drop};
-ghost use Rattle.tables.specs.Table.{choose};
+ghost use Rattle.ground.specs.Bytes.{sameBytes};
 ghost use Rattle.models.specs.Scan.{levelOf, nameRun};
-ghost use Rattle.models.specs.Reading.{nameIn, tableIn, sameBytes, among, finished, ended, linesFrom, reading, Told};
+ghost use Rattle.models.specs.Reading.{nameIn, tableIn, among, finished, ended, linesFrom, reading, Told};
 use crate::held;
 use crate::model::Model;
 use crate::model::Name;
 use crate::model::Reading;
-use crate::model::Verdict;
 use crate::scan;
 use crate::scan::Line;
 use crate::scan::LineRead;
 use crate::scan::Step;
 use answers::Refusal;
+use answers::Verdict;
 use tables::table::Table;
 
 // A model in the making, and the place of the first fence name that stood above already (0 while there is none).
@@ -56,7 +57,7 @@ fn table_in(text: &[u8]) -> Table
     let mut levels = [0u8; 16];
     let mut i = 0;
     while i < 16 {
-        levels[i] = level_of(scan::byte_at(text, i + i / 4));
+        levels[i] = level_of(ground::byte_at(text, i + i / 4));
         i += 1;
     }
     Table::of_levels(levels)
@@ -73,14 +74,9 @@ fn name_in(text: &[u8], from: usize, past: usize) -> Name
 fn same_name(a: Name, b: Name) -> bool
     ensures { λ r. ⌜ r ≡ sameBytes (a .bytes) (b .bytes) ⌝ }
 {
-    let mut i = 0;
-    while i < 16 {
-        if a.bytes[i] != b.bytes[i] {
-            return false;
-        }
-        i += 1;
-    }
-    true
+    let first = a.bytes;
+    let second = b.bytes;
+    ground::same(&first, &second)
 }
 
 // Whether a name stands among the first of sixteen.
@@ -116,7 +112,7 @@ fn finish(p: Progress) -> Reading
 // The place of the first name that stood above already: one was found, or it is the place of this name, or there is none.
 fn repeat_place(found: usize, name: Name, names: [Name; 16], count: usize, at: usize) -> usize
     requires { ⌜ count ≤ 16 ⌝ }
-    ensures { λ r. ⌜ r ≡ choose (eqb found 0) (choose (among name (take count names)) at 0) found ⌝ }
+    ensures { λ r. ⌜ r ≡ cond (eqb found 0) (cond (among name (take count names)) at 0) found ⌝ }
 {
     if found != 0 {
         return found;
@@ -151,7 +147,7 @@ fn lines(text: &[u8], start: Progress, at: usize) -> Reading
     let mut here = at;
     let mut left: usize = 16;
     while 0 < left {
-        if scan::byte_at(text, here) != b'f' {
+        if ground::byte_at(text, here) != b'f' {
             return end(text, Progress { model, repeat }, here);
         }
         match scan::fence_line(text, here) {

@@ -1,8 +1,7 @@
 // The steps of reading a text. A part of the text is followed from a place of it; the answer is the place after the part, or the place
 // at which the text departs from it.
 ghost use mathlib.Core.Path.{_≡_};
-ghost use lib.ListN.{getD, drop};
-ghost use Rattle.models.specs.Model.{between, nameByte};
+ghost use lib.ListN.{drop};
 ghost use Rattle.models.specs.Scan.{cellByte, fits, nameRun, followAt, nameAt, tablePattern};
 ghost use Rattle.models.specs.Reading.{lineEnd, ppoAt, headAt, fenceAt};
 
@@ -21,37 +20,6 @@ pub struct Line {
 pub enum LineRead {
     Read(Line),
     Stuck(usize),
-}
-
-// The byte at a place. Past the end it is 0, which stands in no text of the form.
-pub fn byte_at(text: &[u8], at: usize) -> u8
-    ensures { λ r. ⌜ r ≡ getD (now (text .entry)) at 0 ⌝ }
-{
-    if at < text.len() { text[at] } else { 0 }
-}
-
-fn in_range(low: u8, high: u8, b: u8) -> bool
-    ensures { λ r. ⌜ r ≡ between low high b ⌝ }
-{
-    if b < low {
-        return false;
-    }
-    b <= high
-}
-
-fn is_name_byte(b: u8) -> bool
-    ensures { λ r. ⌜ r ≡ nameByte b ⌝ }
-{
-    if in_range(b'0', b'9', b) {
-        return true;
-    }
-    if in_range(b'A', b'Z', b) {
-        return true;
-    }
-    if in_range(b'a', b'z', b) {
-        return true;
-    }
-    b == b'_'
 }
 
 fn is_cell(b: u8) -> bool
@@ -107,7 +75,7 @@ fn name_bytes(text: &[u8], at: usize) -> usize
         if text.len() <= here {
             return n;
         }
-        if !is_name_byte(text[here]) {
+        if !ground::is_name_byte(text[here]) {
             return n;
         }
         here += 1;

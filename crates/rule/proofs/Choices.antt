@@ -1,19 +1,20 @@
 -- Which fence a way takes, and when it takes none. Assumes nothing.
 use Prim.Native.Nat.{ℕ, zero, suc, _+_, _-_, _≤_, _<_}
 use mathlib.Core.Path.{_≡_, refl, sym, ap, _∙_}
-use mathlib.Core.Bool.{Bool, true, false}
+use mathlib.Core.Bool.{Bool, true, false, cond}
 use mathlib.Core.List.{List, _++_}
 use native.Mathlib.Decide.{decLt}
 use native.Mathlib.Omega.{arith}
 use lib.ListN.{length}
+use Rattle.ground.proofs.Truths.{differ}
 use Rattle.tables.specs.declared.table.Table.{Table}
-use Rattle.tables.specs.Table.{choose, atLeast}
-use Rattle.rule.specs.declared.operation.Kind.{Kind}
+use Rattle.tables.specs.Table.{atLeast}
+use Rattle.operations.specs.declared.Kind.{Kind}
 use Rattle.rule.specs.declared.way.Way.{Way}
 use Rattle.rule.specs.declared.way.Choice.{Choice}
 use Rattle.rule.specs.Stream.{Stream, fence}
 use Rattle.rule.specs.Pairs.{Model, tableAt, settled}
-use Rattle.rule.specs.Rule.{lowest, last, pick, rule, Ran, done, refused}
+use Rattle.rule.specs.Rule.{lowest, last, pick, rule, Ran, refused}
 use Rattle.rule.specs.Situation.{none, choiceOf}
 use Rattle.rule.proofs.Folds.{not-both}
 
@@ -31,9 +32,6 @@ abbrev pub NoneWillDo : Way → (ℕ → Bool) → ℕ → Type 0
 NoneWillDo Way.Sparing f n = (g : ℕ) → g < n → f g ≡ false
 NoneWillDo Way.Full f n = (g : ℕ) → suc g ≡ n → f g ≡ false
 
-pub differ : {A : Type 0} → _≡_ {A = ℕ} 0 1 → A
-differ e = absurd (omega arith)
-
 -- which of these fences will do for what is pending, and what a test of one says of it
 abbrev pub serves : List ℕ → Table → ℕ → Bool
 serves fences pending g = atLeast (tableAt fences g) pending
@@ -44,24 +42,24 @@ told pending e f g = sym (f ∙ ap (λ (x : Table). atLeast x pending) e) ∙ g
 module _ (way : Way) (fences : List ℕ) (pending : Table) where
   pub choice-nothing : atLeast none pending ≡ true → choiceOf way fences pending ≡ Choice.Nothing
   unfolding choiceOf
-  choice-nothing e = ap (λ (b : Bool). choose b Choice.Nothing (pick way (serves fences pending) (length fences))) e
+  choice-nothing e = ap (λ (b : Bool). cond b Choice.Nothing (pick way (serves fences pending) (length fences))) e
 
   pub choice-pick : atLeast none pending ≡ false → choiceOf way fences pending ≡ pick way (serves fences pending) (length fences)
   unfolding choiceOf
-  choice-pick e = ap (λ (b : Bool). choose b Choice.Nothing (pick way (serves fences pending) (length fences))) e
+  choice-pick e = ap (λ (b : Bool). cond b Choice.Nothing (pick way (serves fences pending) (length fences))) e
 
 module _ (f : ℕ → Bool) where
   -- the search for the lowest, one fence at a time
   pub lowest-found : (i n : ℕ) → i < n → f i ≡ true → lowest f i (n - i) ≡ Choice.Fence i
   lowest-found i n l p =
       let e : n - i ≡ suc (n - (i + 1)) = omega arith in
-      ap (lowest f i) e ∙ ap (λ (b : Bool). choose b (Choice.Fence i) (lowest f (suc i) (n - (i + 1)))) p
+      ap (lowest f i) e ∙ ap (λ (b : Bool). cond b (Choice.Fence i) (lowest f (suc i) (n - (i + 1)))) p
 
   pub lowest-next : (i n : ℕ) → i < n → f i ≡ false → lowest f i (n - i) ≡ lowest f (i + 1) (n - (i + 1))
   lowest-next i n l p =
       let e : n - i ≡ suc (n - (i + 1)) = omega arith in
       let m : suc i ≡ i + 1 = omega arith in
-      ap (lowest f i) e ∙ ap (λ (b : Bool). choose b (Choice.Fence i) (lowest f (suc i) (n - (i + 1)))) p
+      ap (lowest f i) e ∙ ap (λ (b : Bool). cond b (Choice.Fence i) (lowest f (suc i) (n - (i + 1)))) p
       ∙ ap (λ (j : ℕ). lowest f j (n - (i + 1))) m
 
   pub lowest-all : (n : ℕ) → lowest f 0 n ≡ lowest f 0 (n - 0)
@@ -75,10 +73,10 @@ module _ (f : ℕ → Bool) where
       ap (lowest f i) e
 
   -- the last of some fences
-  pub last-of : (n : ℕ) → 0 < n → (b : Bool) → f (n - 1) ≡ b → last f n ≡ choose b (Choice.Fence (n - 1)) Choice.Refused
+  pub last-of : (n : ℕ) → 0 < n → (b : Bool) → f (n - 1) ≡ b → last f n ≡ cond b (Choice.Fence (n - 1)) Choice.Refused
   last-of n l b p =
       let e : n ≡ suc (n - 1) = omega arith in
-      ap (last f) e ∙ ap (λ (b : Bool). choose b (Choice.Fence (n - 1)) Choice.Refused) p
+      ap (last f) e ∙ ap (λ (b : Bool). cond b (Choice.Fence (n - 1)) Choice.Refused) p
 
   -- what the search for the lowest finds from i on
   lowest-takes : (i n g : ℕ) → lowest f i n ≡ Choice.Fence g → (i ≤ g) × (g < i + n) × (f g ≡ true) × ((h : ℕ) → i ≤ h → h < g → f h ≡ false)
@@ -89,11 +87,11 @@ module _ (f : ℕ → Bool) where
           → (lowest f (suc i) n ≡ Choice.Fence g → (suc i ≤ g) × (g < suc i + n) × (f g ≡ true) × ((h : ℕ) → suc i ≤ h → h < g → f h ≡ false))
           → (i ≤ g) × (g < i + suc n) × (f g ≡ true) × ((h : ℕ) → i ≤ h → h < g → f h ≡ false)
       at true p rest =
-          let q : Choice.Fence i ≡ Choice.Fence g = sym (ap (λ (b : Bool). choose b (Choice.Fence i) (lowest f (suc i) n)) p) ∙ e in
+          let q : Choice.Fence i ≡ Choice.Fence g = sym (ap (λ (b : Bool). cond b (Choice.Fence i) (lowest f (suc i) n)) p) ∙ e in
           let m : i ≡ g = cc in
           (omega arith, omega arith, sym (ap f m) ∙ p, λ h l u. absurd (omega arith))
       at false p rest =
-          let w = rest (sym (ap (λ (b : Bool). choose b (Choice.Fence i) (lowest f (suc i) n)) p) ∙ e) in
+          let w = rest (sym (ap (λ (b : Bool). cond b (Choice.Fence i) (lowest f (suc i) n)) p) ∙ e) in
           (omega (arith, w .0), omega (arith, w .1), w .2, λ h l u. above h l u (decLt i h) (w .3))
         where
           above : (h : ℕ) → i ≤ h → h < g → Dec (i < h) → ((h : ℕ) → suc i ≤ h → h < g → f h ≡ false) → f h ≡ false
@@ -109,9 +107,9 @@ module _ (f : ℕ → Bool) where
       at : (b : Bool) → f i ≡ b → (lowest f (suc i) n ≡ Choice.Refused → (h : ℕ) → suc i ≤ h → h < suc i + n → f h ≡ false)
           → Dec (i < h) → f h ≡ false
       at true p rest d =
-          let q : Choice.Fence i ≡ Choice.Refused = sym (ap (λ (b : Bool). choose b (Choice.Fence i) (lowest f (suc i) n)) p) ∙ e in
+          let q : Choice.Fence i ≡ Choice.Refused = sym (ap (λ (b : Bool). cond b (Choice.Fence i) (lowest f (suc i) n)) p) ∙ e in
           differ (cc)
-      at false p rest (yes m) = rest (sym (ap (λ (b : Bool). choose b (Choice.Fence i) (lowest f (suc i) n)) p) ∙ e) h m (omega arith)
+      at false p rest (yes m) = rest (sym (ap (λ (b : Bool). cond b (Choice.Fence i) (lowest f (suc i) n)) p) ∙ e) h m (omega arith)
       at false p rest (no m) =
           let e : h ≡ i = omega arith in
           ap f e ∙ p
@@ -122,13 +120,13 @@ module _ (f : ℕ → Bool) where
     where
       at : (b : Bool) → f i ≡ b → (lowest f (suc i) n ≡ Choice.Nothing → ⊥) → ⊥
       at true p rest =
-          let q : Choice.Fence i ≡ Choice.Nothing = sym (ap (λ (b : Bool). choose b (Choice.Fence i) (lowest f (suc i) n)) p) ∙ e in
+          let q : Choice.Fence i ≡ Choice.Nothing = sym (ap (λ (b : Bool). cond b (Choice.Fence i) (lowest f (suc i) n)) p) ∙ e in
           differ (cc)
-      at false p rest = rest (sym (ap (λ (b : Bool). choose b (Choice.Fence i) (lowest f (suc i) n)) p) ∙ e)
+      at false p rest = rest (sym (ap (λ (b : Bool). cond b (Choice.Fence i) (lowest f (suc i) n)) p) ∙ e)
 
   -- what the last is, if it passes
-  last-is : (n : ℕ) (b : Bool) → f n ≡ b → (c : Choice) → choose (f n) (Choice.Fence n) Choice.Refused ≡ c → choose b (Choice.Fence n) Choice.Refused ≡ c
-  last-is n b p c e = sym (ap (λ (b : Bool). choose b (Choice.Fence n) Choice.Refused) p) ∙ e
+  last-is : (n : ℕ) (b : Bool) → f n ≡ b → (c : Choice) → cond (f n) (Choice.Fence n) Choice.Refused ≡ c → cond b (Choice.Fence n) Choice.Refused ≡ c
+  last-is n b p c e = sym (ap (λ (b : Bool). cond b (Choice.Fence n) Choice.Refused) p) ∙ e
 
   -- a pick takes what it says, or says that none will do
 
@@ -211,9 +209,9 @@ module _ (way : Way) (up target : Model) (input output : Stream) (k : Kind) wher
   will-do g = settled up target input (output ++ fence g) k
 
   asked-rule : (b : Bool) → settled up target input output k ≡ b
-      → rule way up target input output k ≡ choose b Choice.Nothing (pick way will-do (length (target .fences)))
+      → rule way up target input output k ≡ cond b Choice.Nothing (pick way will-do (length (target .fences)))
   unfolding rule
-  asked-rule b e = ap (λ (b : Bool). choose b Choice.Nothing (pick way will-do (length (target .fences)))) e
+  asked-rule b e = ap (λ (b : Bool). cond b Choice.Nothing (pick way will-do (length (target .fences)))) e
 
   pub settled-rule : settled up target input output k ≡ true → rule way up target input output k ≡ Choice.Nothing
   settled-rule e = asked-rule true e

@@ -1,18 +1,18 @@
 -- A run goes on where it left off, and refuses at the first access for which no fence will do. Assumes nothing.
-use Prim.Native.Nat.{ℕ, zero, suc, _+_}
-use mathlib.Core.Path.{_≡_, refl, sym, ap, ap₂, subst, _∙_}
-use mathlib.Core.List.{List, [], _∷_, _++_, append-nil, append-assoc}
+use Prim.Native.Nat.{ℕ, suc, _+_}
+use mathlib.Core.Path.{_≡_, refl, sym, ap, ap₂, _∙_}
+use mathlib.Core.List.{[], _∷_, _++_, append-nil, append-assoc}
 use native.Mathlib.Nat.{add-zero, zero-add, suc-add}
-use native.Mathlib.Omega.{arith}
 use lib.ListN.{length}
-use Rattle.rule.specs.declared.operation.Kind.{Kind}
-use Rattle.rule.specs.declared.operation.Operation.{Operation}
+use Rattle.ground.proofs.Truths.{differ}
+use Rattle.operations.specs.declared.Kind.{Kind}
+use Rattle.operations.specs.declared.Operation.{Operation}
 use Rattle.rule.specs.declared.way.Way.{Way}
 use Rattle.rule.specs.declared.way.Choice.{Choice}
-use Rattle.rule.specs.Stream.{Stream, access, fence, accesses}
+use Rattle.rule.specs.Stream.{Stream, access, fence}
 use Rattle.rule.specs.Pairs.{Model}
-use Rattle.rule.specs.Rule.{rule, Ran, done, refused, behind, onward, run}
-use Rattle.rule.proofs.Choices.{goes-on, differ}
+use Rattle.rule.specs.Rule.{rule, Ran, done, refused, behind, onward}
+use Rattle.rule.proofs.Choices.{goes-on}
 
 -- what follows the run of a stream of n operations that put this out
 abbrev pub follows : ℕ → Stream → Ran → Ran

@@ -1,24 +1,16 @@
 -- Every pair of a run is kept, and how. Assumes nothing.
-use Prim.Native.Nat.{ℕ, zero, suc, _≤_, _<_, max}
-use mathlib.Core.Path.{_≡_, refl, sym, ap, ap₂, _∙_}
-use mathlib.Core.Bool.{Bool, true, false}
-use mathlib.Core.Logic.{_⊎_, inl, inr}
-use mathlib.Core.List.{List, [], _∷_, _++_}
-use native.Mathlib.Decide.{decLe, decLt}
+use Prim.Native.Nat.{ℕ, _<_}
+use mathlib.Core.Path.{_≡_, refl, sym, ap, _∙_}
+use mathlib.Core.List.{[], _++_}
+use native.Mathlib.Decide.{decLt}
 use native.Mathlib.Omega.{arith}
 use lib.ListN.{length}
-use Rattle.tables.specs.declared.table.Row.{Row}
-use Rattle.tables.specs.declared.table.Column.{Column}
-use Rattle.tables.specs.Table.{cell}
-use Rattle.rule.specs.declared.operation.Kind.{Kind}
-use Rattle.rule.specs.declared.operation.Operation.{Operation}
+use Rattle.operations.specs.declared.Kind.{Kind}
 use Rattle.rule.specs.declared.way.Way.{Way}
-use Rattle.rule.specs.declared.way.Choice.{Choice}
-use Rattle.rule.specs.Stream.{Stream, access, fence, accesses, count, kindAt, before, after, between}
-use Rattle.rule.specs.Pairs.{Model, fenceTable, isRow, isColumn, highest, asked, offered, Kept, Keeps}
-use Rattle.rule.specs.Rule.{rule}
-use Rattle.rule.proofs.Streams.{count-fence, count-access, kind-append, kind-next, before-append, before-next, same-access, same-fence}
-use Rattle.rule.proofs.Kept.{AtMost, Settled, settled-means}
+use Rattle.rule.specs.Stream.{Stream, access, fence, accesses, count, kindAt, after, between}
+use Rattle.rule.specs.Pairs.{Model, isRow, isColumn, highest, Kept, Keeps}
+use Rattle.rule.proofs.Streams.{count-fence, count-access, kind-append, kind-next, before-append, before-next, same-fence}
+use Rattle.rule.proofs.Kept.{Settled, settled-means}
 use Rattle.rule.proofs.Choices.{rule-nothing, fence-will-do}
 use Rattle.rule.proofs.Reach.{Reach, fresh, passed, plain, fenced, reach-same}
 

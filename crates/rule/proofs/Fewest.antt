@@ -2,26 +2,24 @@
 -- Each fence of the full way was put before an access n that ended a short pair (i, n). The target's last fence settles that pair, and all
 -- fences put are the last one, so none of them stands between i and n: the stretches of the pairs for which fences were put are disjoint.
 -- The pair exceeds the target's default, so any placing that keeps it has a fence in its stretch.
-use Prim.Native.Nat.{ℕ, zero, suc, _+_, _≤_, _<_, max}
-use mathlib.Core.Path.{_≡_, refl, sym, ap, subst, _∙_}
-use mathlib.Core.Bool.{Bool, true, false}
-use mathlib.Core.List.{List, [], _∷_, _++_}
-use native.Mathlib.Decide.{decLt, decLe}
+use Prim.Native.Nat.{ℕ, suc, _+_, _≤_, _<_, max}
+use mathlib.Core.Path.{_≡_, sym, ap, _∙_}
+use mathlib.Core.Bool.{true}
+use mathlib.Core.List.{[], _++_}
+use native.Mathlib.Decide.{decLt}
 use native.Mathlib.Omega.{arith}
 use lib.ListN.{length, take}
 use lib.Seq.{take-append-seam}
 use Rattle.tables.specs.declared.table.Row.{Row}
 use Rattle.tables.specs.declared.table.Column.{Column}
 use Rattle.tables.specs.Table.{cell}
-use Rattle.rule.specs.declared.operation.Kind.{Kind}
-use Rattle.rule.specs.declared.operation.Operation.{Operation}
+use Rattle.operations.specs.declared.Kind.{Kind}
 use Rattle.rule.specs.declared.way.Way.{Way}
 use Rattle.rule.specs.declared.way.Choice.{Choice}
 use Rattle.rule.specs.Stream.{Stream, access, fence, accesses, count, kindAt, fences, before, after, between}
-use Rattle.rule.specs.Pairs.{Model, fenceTable, isRow, isColumn, highest, kept, settled, Kept, Keeps}
+use Rattle.rule.specs.Pairs.{Model, fenceTable, isRow, isColumn, highest, Keeps}
 use Rattle.rule.specs.Rule.{rule}
-use Rattle.rule.proofs.Streams.{accesses-append, accesses-before, count-append, count-fence, count-access, kind-append, kind-next, before-append, before-next, before-before, after-append, fences-append, fences-split, fences-before, highest-fence, highest-access, default-offered, fence-stands, same-fence}
-use Rattle.rule.proofs.Folds.{not-both, some-fails}
+use Rattle.rule.proofs.Streams.{accesses-append, accesses-before, count-append, count-fence, count-access, kind-append, kind-next, before-append, before-next, before-before, after-append, fences-append, fences-split, fences-before, highest-fence, highest-access, default-offered, fence-stands}
 use Rattle.rule.proofs.Kept.{settled-means, some-short}
 use Rattle.rule.proofs.Choices.{rule-fence, fence-will-do}
 use Rattle.rule.proofs.EveryPair.{kept-by}

@@ -1,14 +1,14 @@
 -- What the tests of pairs mean. Assumes nothing.
 use Prim.Native.Nat.{ℕ, _≤_, _<_}
 use mathlib.Core.Path.{_≡_}
-use mathlib.Core.Bool.{Bool, true, false}
+use mathlib.Core.Bool.{true, false}
 use borrow.Author.Tests.{le-leb, leb-true, leb-false}
 use lib.Dec.{leb}
 use Rattle.tables.specs.declared.table.Row.{Row}
 use Rattle.tables.specs.declared.table.Column.{Column}
 use Rattle.tables.specs.Table.{rowNumber, columnNumber}
 use Rattle.tables.proofs.Laws.{row-known, column-known}
-use Rattle.rule.specs.declared.operation.Kind.{Kind}
+use Rattle.operations.specs.declared.Kind.{Kind}
 use Rattle.rule.specs.Stream.{Stream, count, kindAt, after}
 use Rattle.rule.specs.Pairs.{Model, rows, columns, isRow, isColumn, highest, every, kept, settled}
 use Rattle.rule.proofs.Folds.{every-at, at-every, every-below, below-every, some-fails, one-fails}

@@ -1,4 +1,3 @@
-pub mod Bytes
 pub mod Choices
 pub mod Continued
 pub mod EveryPair

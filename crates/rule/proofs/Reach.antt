@@ -1,17 +1,16 @@
 -- How a run comes about, one operation at a time: the one induction on which the theorems about runs rest. Assumes nothing.
-use Prim.Native.Nat.{ℕ, zero, suc, _+_, _≤_, _<_}
+use Prim.Native.Nat.{ℕ, _+_}
 use mathlib.Core.Path.{_≡_, refl, sym, ap, subst₂, _∙_}
-use mathlib.Core.List.{List, [], _∷_, _++_, append-nil, append-assoc}
-use native.Mathlib.Omega.{arith}
-use lib.ListN.{length}
-use Rattle.rule.specs.declared.operation.Kind.{Kind}
-use Rattle.rule.specs.declared.operation.Operation.{Operation}
+use mathlib.Core.List.{[], _∷_, _++_, append-nil, append-assoc}
+use Rattle.ground.proofs.Truths.{differ}
+use Rattle.operations.specs.declared.Kind.{Kind}
+use Rattle.operations.specs.declared.Operation.{Operation}
 use Rattle.rule.specs.declared.way.Way.{Way}
 use Rattle.rule.specs.declared.way.Choice.{Choice}
 use Rattle.rule.specs.Stream.{Stream, access, fence, accesses}
 use Rattle.rule.specs.Pairs.{Model}
 use Rattle.rule.specs.Rule.{rule, Ran, done, refused, behind, onward, run}
-use Rattle.rule.proofs.Choices.{goes-on, differ}
+use Rattle.rule.proofs.Choices.{goes-on}
 use Rattle.rule.proofs.Streams.{same-access, same-fence}
 
 module _ (way : Way) (up target : Model) where

@@ -1,27 +1,27 @@
 -- The stepped situation is the situation by pairs, and the run by situations is the run by the rule. Assumes nothing.
-use Prim.Native.Nat.{ℕ, zero, suc, _+_, _≤_, _<_, max, min}
+use Prim.Native.Nat.{ℕ, _+_, _≤_, _<_, max, min}
 use mathlib.Core.Path.{_≡_, refl, sym, ap, ap₂, fun-ext, _∙_}
-use mathlib.Core.Bool.{Bool, true, false}
-use mathlib.Core.List.{List, [], _∷_, _++_, append-assoc}
+use mathlib.Core.Bool.{Bool, true, false, cond}
+use mathlib.Core.List.{[], _∷_, _++_, append-assoc}
 use native.Mathlib.Omega.{arith}
 use lib.ListN.{length}
 use Rattle.tables.specs.declared.table.Row.{Row}
 use Rattle.tables.specs.declared.table.Column.{Column}
 use Rattle.tables.specs.declared.table.Table.{Table}
-use Rattle.tables.specs.Table.{Merge, cell, choose, excess, table, higher, lower, exceeding, atLeast}
+use Rattle.tables.specs.Table.{Merge, cell, excess, higher, lower, exceeding, atLeast}
 use Rattle.tables.proofs.Laws.{cell-below, cell-made, cell-merged, table-cong, table-merged, at-least-cells, cells-at-least, cell-none}
 use Rattle.tables.proofs.Excess.{excess-below, excess-least, excess-lifts, excess-of-higher, excess-over-higher}
-use Rattle.rule.specs.declared.operation.Kind.{Kind}
-use Rattle.rule.specs.declared.operation.Operation.{Operation}
+use Rattle.operations.specs.declared.Kind.{Kind}
+use Rattle.operations.specs.declared.Operation.{Operation}
 use Rattle.rule.specs.declared.situation.Situation.{Situation}
 use Rattle.rule.specs.declared.way.Way.{Way}
 use Rattle.rule.specs.declared.way.Choice.{Choice}
 use Rattle.rule.specs.Stream.{Stream, access, fence, accesses, count, kindAt, after}
 use Rattle.rule.specs.Pairs.{Model, fenceTable, isRow, isColumn, highest, settled}
 use Rattle.rule.specs.Situation.{highestBelow, leastBelow, needAt, lowAt, need, low, situation, inRows, outsideRows, inColumns, asks, offers, joins, pending, none, choiceOf, stepOf, resumed, steps}
-use Rattle.rule.specs.Rule.{pick, rule, onward, behind, Ran, done, refused}
+use Rattle.rule.specs.Rule.{pick, rule, onward, behind, Ran}
 use Rattle.rule.proofs.Streams.{same-access, same-fence, count-fence, count-access, kind-append, kind-next, after-append, after-next, highest-access, highest-fence, highest-below}
-use Rattle.rule.proofs.Folds.{highest-cong, least-cong, highest-at-most, least-below, highest-both, choose-higher, excess-over-least, excess-of-highest, least-raised, same-test, highest-from}
+use Rattle.rule.proofs.Folds.{highest-cong, least-cong, highest-at-most, least-below, highest-both, cond-higher, excess-over-least, excess-of-highest, least-raised, same-test, highest-from}
 use Rattle.rule.proofs.Choices.{goes-on}
 use Rattle.rule.proofs.Kept.{settled-means, means-settled}
 
@@ -49,12 +49,12 @@ module _ (up target : Model) (r : Row) (c : Column) (input output : Stream) (sam
   unfolding a o counts
   need-asks n =
       ap (λ (m : ℕ). highestBelow m (needAt up target (input ++ fence n) output r c)) (count-fence input n)
-      ∙ highest-cong (count input) _ (λ (i : ℕ). max (choose (counts i) (excess (a i) (o i)) 0) (choose (counts i) (excess f (o i)) 0))
+      ∙ highest-cong (count input) _ (λ (i : ℕ). max (cond (counts i) (excess (a i) (o i)) 0) (cond (counts i) (excess f (o i)) 0))
       (λ i l.
-      ap₂ (λ (k : Kind) (x : ℕ). choose (isRow k r) (excess x (o i)) 0) (kind-append input (fence n) i l)
+      ap₂ (λ (k : Kind) (x : ℕ). cond (isRow k r) (excess x (o i)) 0) (kind-append input (fence n) i l)
       (ap (highest up r c) (after-append i input (fence n) l) ∙ highest-fence up r c (after i input) n)
-      ∙ ap (λ (x : ℕ). choose (counts i) x 0) (excess-of-higher (a i) f (o i))
-      ∙ choose-higher (counts i) _ _)
+      ∙ ap (λ (x : ℕ). cond (counts i) x 0) (excess-of-higher (a i) f (o i))
+      ∙ cond-higher (counts i) _ _)
       ∙ highest-both (count input) _ _
       ∙ ap (max (need up target input output r c)) (excess-over-least counts (count input) f o (omega (arith, cell-below (fenceTable up n) r c)))
     where
@@ -65,17 +65,17 @@ module _ (up target : Model) (r : Row) (c : Column) (input output : Stream) (sam
   low-asks n =
       ap (λ (m : ℕ). leastBelow m (lowAt target (input ++ fence n) output r c)) (count-fence input n)
       ∙ least-cong (count input) _ _
-      (λ i l. ap (λ (k : Kind). choose (isRow k r) (highest target r c (after i output)) 3) (kind-append input (fence n) i l))
+      (λ i l. ap (λ (k : Kind). cond (isRow k r) (highest target r c (after i output)) 3) (kind-append input (fence n) i l))
 
   pub need-offers : (g : ℕ) → need up target input (output ++ fence g) r c
       ≡ excess (need up target input output r c) (cell (fenceTable target g) r c)
   unfolding a o counts
   need-offers g =
-      highest-cong (count input) _ (λ (i : ℕ). choose (counts i) (excess (excess (a i) (o i)) f) 0)
+      highest-cong (count input) _ (λ (i : ℕ). cond (counts i) (excess (excess (a i) (o i)) f) 0)
       (λ i l.
-      ap (λ (x : ℕ). choose (counts i) (excess (a i) x) 0)
+      ap (λ (x : ℕ). cond (counts i) (excess (a i) x) 0)
       (ap (highest target r c) (after-append i output (fence g) (there i l)) ∙ highest-fence target r c (after i output) g)
-      ∙ ap (λ (x : ℕ). choose (counts i) x 0) (excess-over-higher (a i) (o i) f))
+      ∙ ap (λ (x : ℕ). cond (counts i) x 0) (excess-over-higher (a i) (o i) f))
       ∙ excess-of-highest counts (count input) f (λ (i : ℕ). excess (a i) (o i))
     where
       f : ℕ
@@ -85,9 +85,9 @@ module _ (up target : Model) (r : Row) (c : Column) (input output : Stream) (sam
       ≡ max (low target input output r c) (cell (fenceTable target g) r c)
   unfolding a o counts
   low-offers g =
-      least-cong (count input) _ (λ (i : ℕ). choose (counts i) (max (o i) f) 3)
+      least-cong (count input) _ (λ (i : ℕ). cond (counts i) (max (o i) f) 3)
       (λ i l.
-      ap (λ (x : ℕ). choose (counts i) x 3)
+      ap (λ (x : ℕ). cond (counts i) x 3)
       (ap (highest target r c) (after-append i output (fence g) (there i l)) ∙ highest-fence target r c (after i output) g))
       ∙ least-raised counts (count input) f o (omega (arith, cell-below (fenceTable target g) r c))
     where
@@ -103,23 +103,23 @@ module _ (up target : Model) (r : Row) (c : Column) (input output : Stream) (sam
   default m s k i e = ap (λ (j : ℕ). highest m r c (after j (s ++ access k))) e ∙ ap (highest m r c) (after-next s k [])
 
   pub need-joins : (k : Kind) → need up target (input ++ access k) (output ++ access k) r c
-      ≡ max (need up target input output r c) (choose (isRow k r) (excess (cell (up .ppo) r c) (cell (target .ppo) r c)) 0)
+      ≡ max (need up target input output r c) (cond (isRow k r) (excess (cell (up .ppo) r c) (cell (target .ppo) r c)) 0)
   need-joins k =
       ap (λ (m : ℕ). highestBelow m (needAt up target (input ++ access k) (output ++ access k) r c)) (count-access input k)
       ∙ ap₂ max
       (highest-cong (count input) _ _
-      (λ i l. ap₃ (λ (j : Kind) (x y : ℕ). choose (isRow j r) (excess x y) 0) (kind-append input (access k) i l) (still up input i k l) (still target output i k (there i l))))
-      (ap₃ (λ (j : Kind) (x y : ℕ). choose (isRow j r) (excess x y) 0) (kind-next input k []) (default up input k (count input) refl)
+      (λ i l. ap₃ (λ (j : Kind) (x y : ℕ). cond (isRow j r) (excess x y) 0) (kind-append input (access k) i l) (still up input i k l) (still target output i k (there i l))))
+      (ap₃ (λ (j : Kind) (x y : ℕ). cond (isRow j r) (excess x y) 0) (kind-next input k []) (default up input k (count input) refl)
       (default target output k (count input) (sym (ap length same))))
 
   pub low-joins : (k : Kind) → low target (input ++ access k) (output ++ access k) r c
-      ≡ min (low target input output r c) (choose (isRow k r) (cell (target .ppo) r c) 3)
+      ≡ min (low target input output r c) (cond (isRow k r) (cell (target .ppo) r c) 3)
   low-joins k =
       ap (λ (m : ℕ). leastBelow m (lowAt target (input ++ access k) (output ++ access k) r c)) (count-access input k)
       ∙ ap₂ min
       (least-cong (count input) _ _
-      (λ i l. ap₂ (λ (j : Kind) (y : ℕ). choose (isRow j r) y 3) (kind-append input (access k) i l) (still target output i k (there i l))))
-      (ap₂ (λ (j : Kind) (y : ℕ). choose (isRow j r) y 3) (kind-next input k []) (default target output k (count input) (sym (ap length same))))
+      (λ i l. ap₂ (λ (j : Kind) (y : ℕ). cond (isRow j r) y 3) (kind-append input (access k) i l) (still target output i k (there i l))))
+      (ap₂ (λ (j : Kind) (y : ℕ). cond (isRow j r) y 3) (kind-next input k []) (default target output k (count input) (sym (ap length same))))
 
 -- the cells of a situation
 
@@ -127,7 +127,7 @@ module _ (up target : Model) (input output : Stream) where
   need-below : (r : Row) (c : Column) → need up target input output r c < 4
   need-below r c = omega (arith, highest-at-most (count input) _ 3 each)
     where
-      at-most : (b : Bool) (x : ℕ) → x < 4 → choose b x 0 ≤ 3
+      at-most : (b : Bool) (x : ℕ) → x < 4 → cond b x 0 ≤ 3
       at-most true x l = omega arith
       at-most false x l = omega arith
 
@@ -142,7 +142,7 @@ module _ (up target : Model) (input output : Stream) where
   unfolding situation
   cell-low r c = cell-made _ r c (least-below (count input) _)
 
-mask-below : (b : Bool) → choose b 3 0 < 4
+mask-below : (b : Bool) → cond b 3 0 < 4
 mask-below true = omega arith
 mask-below false = omega arith
 
@@ -182,26 +182,26 @@ module _ (up target : Model) (input output : Stream) (same : accesses output ≡
       low-joins up target r c input output same k
       ∙ ap₂ min (sym (cell-low up target input output r c)) (sym (outside r c))))
     where
-      masked : (b : Bool) (x : ℕ) → x < 4 → min (choose b 3 0) x ≡ choose b x 0
+      masked : (b : Bool) (x : ℕ) → x < 4 → min (cond b 3 0) x ≡ cond b x 0
       masked true x l = omega arith
       masked false x l = omega arith
 
-      filled : (b : Bool) (x : ℕ) → x < 4 → max x (choose b 0 3) ≡ choose b x 3
+      filled : (b : Bool) (x : ℕ) → x < 4 → max x (cond b 0 3) ≡ cond b x 3
       filled true x l = omega arith
       filled false x l = omega arith
 
-      unbit : (b : Bool) → choose b 0 3 < 4
+      unbit : (b : Bool) → cond b 0 3 < 4
       unbit true = omega arith
       unbit false = omega arith
 
       in-rows : (r : Row) (c : Column) → cell (lower (inRows k) (exceeding (up .ppo) (target .ppo))) r c
-          ≡ choose (isRow k r) (excess (cell (up .ppo) r c) (cell (target .ppo) r c)) 0
+          ≡ cond (isRow k r) (excess (cell (up .ppo) r c) (cell (target .ppo) r c)) 0
       in-rows r c =
           cell-merged Merge.Lower _ _ r c
           ∙ ap₂ min (cell-made _ r c (mask-below (isRow k r))) (cell-merged Merge.Exceeding _ _ r c)
           ∙ masked (isRow k r) _ (excess-below _ _ 4 (cell-below (up .ppo) r c))
 
-      outside : (r : Row) (c : Column) → cell (higher (target .ppo) (outsideRows k)) r c ≡ choose (isRow k r) (cell (target .ppo) r c) 3
+      outside : (r : Row) (c : Column) → cell (higher (target .ppo) (outsideRows k)) r c ≡ cond (isRow k r) (cell (target .ppo) r c) 3
       outside r c =
           cell-merged Merge.Higher _ _ r c
           ∙ ap (max (cell (target .ppo) r c)) (cell-made _ r c (unbit (isRow k r)))
@@ -216,19 +216,19 @@ module _ (up target : Model) (input output : Stream) (same : accesses output ≡
   serves k x put offer = same-test _ _ forth back
     where
       waiting : (r : Row) (c : Column) → cell (pending k (situation up target input output)) r c
-          ≡ min (need up target input output r c) (choose (isColumn k c) 3 0)
+          ≡ min (need up target input output r c) (cond (isColumn k c) 3 0)
       waiting r c =
           cell-merged Merge.Lower _ _ r c ∙ ap₂ min (cell-need up target input output r c) (cell-made _ r c (mask-below (isColumn k c)))
 
       in-row : settled up target input put k ≡ true → (r : Row) (c : Column) → isColumn k c ≡ true → (i : ℕ) → i < count input
           → (b : Bool) → isRow (kindAt input i) r ≡ b
-          → choose b (excess (highest up r c (after i input)) (highest target r c (after i output))) 0 ≤ cell x r c
+          → cond b (excess (highest up r c (after i input)) (highest target r c (after i output))) 0 ≤ cell x r c
       in-row e r c hc i l true hr =
           excess-least (highest up r c (after i input)) (highest target r c (after i output)) (cell x r c) (omega (arith, settled-means up target input put k e i l r c hr hc, offer i l r c))
       in-row e r c hc i l false hr = omega arith
 
       in-column : settled up target input put k ≡ true → (r : Row) (c : Column) → (b : Bool) → isColumn k c ≡ b
-          → min (need up target input output r c) (choose b 3 0) ≤ cell x r c
+          → min (need up target input output r c) (cond b 3 0) ≤ cell x r c
       in-column e r c true hc =
           omega (
             arith,
@@ -249,11 +249,11 @@ module _ (up target : Model) (input output : Stream) (same : accesses output ≡
                 (omega (
                   arith,
                   highest-from (count input) (needAt up target input output r c) i l,
-                  ap (λ (b : Bool). choose b (excess (highest up r c (after i input)) (highest target r c (after i output))) 0) hr,
+                  ap (λ (b : Bool). cond b (excess (highest up r c (after i input)) (highest target r c (after i output))) 0) hr,
                   need-below up target input output r c,
                   at-least-cells x (pending k (situation up target input output)) e r c,
                   waiting r c,
-                  ap (λ (b : Bool). min (need up target input output r c) (choose b 3 0)) hc,
+                  ap (λ (b : Bool). min (need up target input output r c) (cond b 3 0)) hc,
                 )),
           ))
 
@@ -272,7 +272,7 @@ module _ (up target : Model) (input output : Stream) (same : accesses output ≡
   pub chosen-rule : (way : Way) (k : Kind) → rule way up target input output k ≡ choiceOf way (target .fences) (pending k (situation up target input output))
   unfolding rule choiceOf
   chosen-rule way k =
-      ap₂ (λ (b : Bool) (f : ℕ → Bool). choose b Choice.Nothing (pick way f (length (target .fences))))
+      ap₂ (λ (b : Bool) (f : ℕ → Bool). cond b Choice.Nothing (pick way f (length (target .fences))))
       (settled-none k) (fun-ext (settled-fence k))
 
 -- the run by situations is the run by the rule

@@ -1,18 +1,17 @@
 -- What stands before each access of an output. Assumes nothing.
-use Prim.Native.Nat.{ℕ, zero, suc, _≤_, _<_}
+use Prim.Native.Nat.{ℕ, _<_}
 use mathlib.Core.Path.{_≡_, refl, sym, ap, subst, _∙_}
-use mathlib.Core.List.{List, [], _∷_, _++_, append-nil, append-assoc}
+use mathlib.Core.List.{[], _++_, append-nil, append-assoc}
 use native.Mathlib.Decide.{decLt}
 use native.Mathlib.Omega.{arith}
 use lib.ListN.{length}
-use Rattle.rule.specs.declared.operation.Kind.{Kind}
-use Rattle.rule.specs.declared.operation.Operation.{Operation}
+use Rattle.operations.specs.declared.Kind.{Kind}
 use Rattle.rule.specs.declared.way.Way.{Way}
 use Rattle.rule.specs.declared.way.Choice.{Choice}
 use Rattle.rule.specs.Stream.{Stream, access, fence, accesses, count, kindAt, before, through}
 use Rattle.rule.specs.Pairs.{Model}
 use Rattle.rule.specs.Rule.{rule}
-use Rattle.rule.proofs.Streams.{count-fence, count-access, kind-append, kind-next, before-append, before-next, through-append, through-next, same-access, same-fence}
+use Rattle.rule.proofs.Streams.{count-fence, count-access, kind-append, kind-next, before-append, before-next, through-append, through-next, same-fence}
 use Rattle.rule.proofs.Reach.{Reach, fresh, passed, plain, fenced, reach-same}
 
 -- what a choice puts; `puts c out` is that the access was not refused and out is what was put

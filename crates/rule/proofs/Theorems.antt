@@ -1,24 +1,23 @@
 -- The theorems about runs, for any two models, any way and any stream, as a reader wants to find them. Assumes nothing.
-use Prim.Native.Nat.{ℕ, suc, _≤_, _<_}
+use Prim.Native.Nat.{ℕ, _≤_, _<_}
 use mathlib.Core.Path.{_≡_, refl, sym, ap, subst, _∙_}
-use mathlib.Core.Bool.{Bool, true, false}
+use mathlib.Core.Bool.{Bool, false}
 use mathlib.Core.Logic.{_⊎_, inl, inr}
-use mathlib.Core.List.{List, [], _∷_, _++_, append-nil}
+use mathlib.Core.List.{[], _∷_, _++_, append-nil}
 use native.Mathlib.Decide.{decLe}
 use native.Mathlib.Omega.{arith}
 use lib.ListN.{length}
 use Rattle.tables.specs.declared.table.Row.{Row}
 use Rattle.tables.specs.declared.table.Column.{Column}
-use Rattle.tables.specs.declared.table.Table.{Table}
 use Rattle.tables.specs.Table.{cell, table}
-use Rattle.rule.specs.declared.operation.Kind.{Kind}
-use Rattle.rule.specs.declared.operation.Operation.{Operation}
+use Rattle.operations.specs.declared.Kind.{Kind}
+use Rattle.operations.specs.declared.Operation.{Operation}
 use Rattle.rule.specs.declared.situation.Situation.{Situation}
 use Rattle.rule.specs.declared.way.Way.{Way}
 use Rattle.rule.specs.declared.way.Choice.{Choice}
 use Rattle.rule.specs.Stream.{Stream, fence, accesses, count, kindAt, fences, before, between, through}
 use Rattle.rule.specs.Pairs.{Model, fenceTable, highest, offered, Keeps, settled}
-use Rattle.rule.specs.Rule.{rule, Ran, done, refused, onward, run, Placing}
+use Rattle.rule.specs.Rule.{rule, done, refused, onward, run, Placing}
 use Rattle.rule.specs.Situation.{situation, fresh, steps}
 use Rattle.rule.proofs.Kept.{Settled, settled-means, means-settled}
 use Rattle.rule.proofs.Choices.{Takes, NoneWillDo, rule-nothing, rule-fence, rule-refused, short-rule, none-pick}
@@ -27,7 +26,7 @@ use Rattle.rule.proofs.Reach.{Reach, reach-same, run-reach}
 use Rattle.rule.proofs.EveryPair.{reach-keeps}
 use Rattle.rule.proofs.Stands.{Puts, reach-stands, reach-ends}
 use Rattle.rule.proofs.Fewest.{reach-fewest}
-use Rattle.rule.proofs.Continued.{Refusal, refused-refusal, refusal-refused}
+use Rattle.rule.proofs.Continued.{refused-refusal, refusal-refused}
 use Rattle.rule.proofs.Situations.{by-situations}
 
 module _ (way : Way) (up target : Model) (input output : Stream) (accepted : run way up target input ≡ done output) where

@@ -1,4 +1,3 @@
-pub mod Operation
 pub mod Stream
 pub mod Pairs
 pub mod Rule

@@ -5,16 +5,16 @@
 -- The earlier of a pair counts in each row of its kind, the later in each column of its own.
 use Prim.Native.Nat.{ℕ, zero, suc, _<_, _≤_, max}
 use mathlib.Core.Path.{_≡_}
-use mathlib.Core.Bool.{Bool, true, false}
+use mathlib.Core.Bool.{Bool, true, false, cond}
 use mathlib.Core.List.{List, [], _∷_, map}
 use lib.Dec.{leb, eqb}
 use lib.ListN.{getD}
 use Rattle.tables.specs.declared.table.Row.{Row}
 use Rattle.tables.specs.declared.table.Column.{Column}
 use Rattle.tables.specs.declared.table.Table.{Table}
-use Rattle.tables.specs.Table.{rowNumber, columnNumber, cell, choose}
-use Rattle.rule.specs.declared.operation.Kind.{Kind}
-use Rattle.rule.specs.declared.operation.Operation.{Operation}
+use Rattle.tables.specs.Table.{rowNumber, columnNumber, cell}
+use Rattle.operations.specs.declared.Kind.{Kind}
+use Rattle.operations.specs.declared.Operation.{Operation}
 use Rattle.rule.specs.Stream.{Stream, count, kindAt, after, between}
 
 -- a model: its default table, and the packed tables of its fences by number
@@ -44,7 +44,7 @@ columns Kind.Cst = Column.Cst ∷ []
 
 abbrev pub oneOf : List ℕ → ℕ → Bool
 oneOf [] n = false
-oneOf (m ∷ ms) n = choose (eqb m n) true (oneOf ms n)
+oneOf (m ∷ ms) n = cond (eqb m n) true (oneOf ms n)
 
 abbrev pub isRow : Kind → Row → Bool
 isRow k r = oneOf (map rowNumber (rows k)) (rowNumber r)
@@ -79,7 +79,7 @@ Keeps up target input output = (i j : ℕ) → i < j → j < count input → Kep
 -- input and y in the output
 abbrev pub every : {A : Type 0} → (A → Bool) → List A → Bool
 every f [] = true
-every f (a ∷ rest) = choose (f a) (every f rest) false
+every f (a ∷ rest) = cond (f a) (every f rest) false
 
 abbrev pub kept : Model → Model → Kind → Kind → Stream → Stream → Bool
 kept up target a b x y =
@@ -88,7 +88,7 @@ kept up target a b x y =
 -- the test f passes at every number below n
 abbrev pub everyBelow : ℕ → (ℕ → Bool) → Bool
 everyBelow zero f = true
-everyBelow (suc n) f = choose (everyBelow n f) (f n) false
+everyBelow (suc n) f = cond (everyBelow n f) (f n) false
 
 -- after this input and this output, no pair that ends at an access of kind k coming now would be short
 unfoldable pub settled : Model → Model → Stream → Stream → Kind → Bool

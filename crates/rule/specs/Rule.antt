@@ -5,13 +5,11 @@
 -- The run has no limit of length: only the calls have.
 use Prim.Native.Nat.{ℕ, zero, suc, _+_, _<_}
 use mathlib.Core.Path.{_≡_}
-use mathlib.Core.Bool.{Bool, true, false}
-use mathlib.Core.List.{List, [], _∷_, _++_}
-use lib.Dec.{ltb}
+use mathlib.Core.Bool.{Bool, cond}
+use mathlib.Core.List.{[], _∷_, _++_}
 use lib.ListN.{length}
-use Rattle.tables.specs.Table.{choose}
-use Rattle.rule.specs.declared.operation.Kind.{Kind}
-use Rattle.rule.specs.declared.operation.Operation.{Operation}
+use Rattle.operations.specs.declared.Kind.{Kind}
+use Rattle.operations.specs.declared.Operation.{Operation}
 use Rattle.rule.specs.declared.way.Way.{Way}
 use Rattle.rule.specs.declared.way.Choice.{Choice}
 use Rattle.rule.specs.Stream.{Stream, access, fence, accesses, fences}
@@ -25,12 +23,12 @@ wayNumber Way.Full = 1
 -- the lowest number of n, counted from i, at which the test passes
 abbrev pub lowest : (ℕ → Bool) → ℕ → ℕ → Choice
 lowest f i zero = Choice.Refused
-lowest f i (suc n) = choose (f i) (Choice.Fence i) (lowest f (suc i) n)
+lowest f i (suc n) = cond (f i) (Choice.Fence i) (lowest f (suc i) n)
 
 -- the last number below n, if the test passes there
 abbrev pub last : (ℕ → Bool) → ℕ → Choice
 last f zero = Choice.Refused
-last f (suc n) = choose (f n) (Choice.Fence n) Choice.Refused
+last f (suc n) = cond (f n) (Choice.Fence n) Choice.Refused
 
 -- which of n fences a way takes, where the test says which will do
 abbrev pub pick : Way → (ℕ → Bool) → ℕ → Choice
@@ -40,7 +38,7 @@ pick Way.Full f n = last f n
 -- what the rule puts before an access of kind k, after this input and this output
 unfoldable pub rule : Way → Model → Model → Stream → Stream → Kind → Choice
 rule way up target input output k =
-    choose (settled up target input output k) Choice.Nothing
+    cond (settled up target input output k) Choice.Nothing
     (pick way (λ (g : ℕ). settled up target input (output ++ fence g) k) (length (target .fences)))
 
 -- what a run gives: its output, or the index of the access that it refuses

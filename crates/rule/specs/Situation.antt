@@ -2,16 +2,15 @@
 -- access coming now (`-` if none), and the least offered among earlier accesses of the first kind (S if none)."
 -- Then the same stepped: how each operation changes it, and the run that keeps only the situation of the past.
 use Prim.Native.Nat.{ℕ, zero, suc, max, min}
-use mathlib.Core.Bool.{Bool, true, false}
+use mathlib.Core.Bool.{cond}
 use mathlib.Core.List.{List, [], _∷_, _++_}
-use lib.Dec.{eqb}
 use lib.ListN.{length}
 use Rattle.tables.specs.declared.table.Row.{Row}
 use Rattle.tables.specs.declared.table.Column.{Column}
 use Rattle.tables.specs.declared.table.Table.{Table}
-use Rattle.tables.specs.Table.{choose, excess, table, higher, lower, exceeding, atLeast}
-use Rattle.rule.specs.declared.operation.Kind.{Kind}
-use Rattle.rule.specs.declared.operation.Operation.{Operation}
+use Rattle.tables.specs.Table.{excess, table, higher, lower, exceeding, atLeast}
+use Rattle.operations.specs.declared.Kind.{Kind}
+use Rattle.operations.specs.declared.Operation.{Operation}
 use Rattle.rule.specs.declared.situation.Situation.{Situation}
 use Rattle.rule.specs.declared.way.Way.{Way}
 use Rattle.rule.specs.declared.way.Choice.{Choice}
@@ -33,10 +32,10 @@ leastBelow (suc n) f = min (leastBelow n f) (f n)
 -- what access i asks where it is still short, and what it is offered, for a row and a column of an access coming now
 abbrev pub needAt : Model → Model → Stream → Stream → Row → Column → ℕ → ℕ
 needAt up target input output r c i =
-    choose (isRow (kindAt input i) r) (excess (highest up r c (after i input)) (highest target r c (after i output))) 0
+    cond (isRow (kindAt input i) r) (excess (highest up r c (after i input)) (highest target r c (after i output))) 0
 
 abbrev pub lowAt : Model → Stream → Stream → Row → Column → ℕ → ℕ
-lowAt target input output r c i = choose (isRow (kindAt input i) r) (highest target r c (after i output)) 3
+lowAt target input output r c i = cond (isRow (kindAt input i) r) (highest target r c (after i output)) 3
 
 abbrev pub need : Model → Model → Stream → Stream → Row → Column → ℕ
 need up target input output r c = highestBelow (count input) (needAt up target input output r c)
@@ -58,13 +57,13 @@ fresh = record { need = none; low = record { packed = 0xffff_ffff } }
 
 -- S in the rows of a kind and `-` elsewhere; `-` in its rows and S elsewhere; S in its columns and `-` elsewhere
 unfoldable pub inRows : Kind → Table
-inRows k = table (λ (r : Row) (c : Column). choose (isRow k r) 3 0)
+inRows k = table (λ (r : Row) (c : Column). cond (isRow k r) 3 0)
 
 unfoldable pub outsideRows : Kind → Table
-outsideRows k = table (λ (r : Row) (c : Column). choose (isRow k r) 0 3)
+outsideRows k = table (λ (r : Row) (c : Column). cond (isRow k r) 0 3)
 
 unfoldable pub inColumns : Kind → Table
-inColumns k = table (λ (r : Row) (c : Column). choose (isColumn k c) 3 0)
+inColumns k = table (λ (r : Row) (c : Column). cond (isColumn k c) 3 0)
 
 -- after an upstream fence: it asks of every earlier access, where it exceeds what is offered
 abbrev pub asks : Table → Situation → Situation
@@ -89,7 +88,7 @@ pending k s = lower (s .need) (inColumns k)
 -- what the way puts before an access that needs this, of these fences
 unfoldable pub choiceOf : Way → List ℕ → Table → Choice
 choiceOf way fences p =
-    choose (atLeast none p) Choice.Nothing (pick way (λ (g : ℕ). atLeast (tableAt fences g) p) (length fences))
+    cond (atLeast none p) Choice.Nothing (pick way (λ (g : ℕ). atLeast (tableAt fences g) p) (length fences))
 
 -- an access after a choice: what is put before it, and the situation after it
 abbrev pub stepOf : Table → Model → Situation → Kind → Choice → Step

@@ -1,9 +1,9 @@
 -- Streams of operations, and what stands where in one. Accesses are numbered from 0, in the order of the stream.
-use Prim.Native.Nat.{ℕ, zero, suc, _+_}
+use Prim.Native.Nat.{ℕ, zero, suc}
 use mathlib.Core.List.{List, [], _∷_}
 use lib.ListN.{length, getD}
-use Rattle.rule.specs.declared.operation.Kind.{Kind}
-use Rattle.rule.specs.declared.operation.Operation.{Operation}
+use Rattle.operations.specs.declared.Kind.{Kind}
+use Rattle.operations.specs.declared.Operation.{Operation}
 
 abbrev pub Stream : Type 0
 Stream = List Operation

@@ -1,4 +1,3 @@
 // What it means for a shim to be right, and the step that every run and every machine takes.
-pub mod operation;
 pub mod situation;
 pub mod way;

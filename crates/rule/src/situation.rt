@@ -2,7 +2,7 @@
 // short, and the least offered.
 ghost use mathlib.Core.Path.{_≡_};
 ghost use Rattle.rule.specs.Situation.{inRows, outsideRows, inColumns, asks, offers, joins, pending, fresh};
-use crate::operation::Kind;
+use operations::Kind;
 use tables::table::Column;
 use tables::table::Row;
 use tables::table::Table;

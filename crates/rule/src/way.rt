@@ -1,13 +1,13 @@
 // The two ways of choosing a fence, and the step that an access takes.
-ghost use mathlib.Core.Path.{_≡_};
 ghost use Prim.Native.Nat.{ℕ};
+ghost use mathlib.Core.Path.{_≡_};
 ghost use lib.ListN.{length};
 ghost use Rattle.tables.specs.Table.{atLeast};
 ghost use Rattle.rule.specs.Pairs.{tableAt};
 ghost use Rattle.rule.specs.Rule.{wayNumber, lowest, last};
 ghost use Rattle.rule.specs.Situation.{choiceOf, stepped};
-use crate::operation::Kind;
 use crate::situation::Situation;
+use operations::Kind;
 use tables::table::Table;
 
 pub enum Way {

@@ -1,20 +1,20 @@
 -- The direct run byte by byte is the direct run by the rule. Assumes nothing.
 use Prim.Native.Nat.{ℕ, suc, _+_}
-use mathlib.Core.Path.{_≡_, refl, sym, ap, ap₂, _∙_}
+use mathlib.Core.Path.{_≡_, refl, ap, ap₂, _∙_}
 use mathlib.Core.List.{List, [], _∷_, _++_, map, map-append}
 use mathlib.Core.Option.{Option, none, some}
 use native.Mathlib.Omega.{arith}
 use lib.ListN.{length}
 use Rattle.answers.specs.declared.Refusal.{Refusal}
-use Rattle.rule.specs.declared.operation.Kind.{Kind}
-use Rattle.rule.specs.declared.operation.Operation.{Operation}
+use Rattle.operations.specs.declared.Kind.{Kind}
+use Rattle.operations.specs.declared.Operation.{Operation}
+use Rattle.operations.specs.Operation.{accessByte, fenceByte, byteOf}
 use Rattle.rule.specs.declared.situation.Situation.{Situation}
 use Rattle.rule.specs.declared.way.Way.{Way}
 use Rattle.rule.specs.declared.way.Step.{Step}
-use Rattle.rule.specs.Operation.{accessByte, fenceByte, written}
 use Rattle.rule.specs.Stream.{Stream, access, fence}
 use Rattle.rule.specs.Pairs.{Model, fenceTable}
-use Rattle.rule.specs.Rule.{Ran, done, refused, behind, run}
+use Rattle.rule.specs.Rule.{Ran, done, refused, behind}
 use Rattle.rule.specs.Situation.{asks, fresh, stepped, resumed, steps}
 use Rattle.rule.proofs.Theorems.{steps-are-the-rule}
 use Rattle.runs.specs.Bytes.{Judged, good, bad, judged, operations, operationsFrom, fault, faultFrom, Outcome, put, refuse, outcomeOf, direct}
@@ -26,11 +26,11 @@ ahead-none (put bytes) = refl
 ahead-none (refuse why) = refl
 
 -- what was put out before a run comes before its bytes, and its refusals are one further on
-outcome-behind : (at : ℕ) (p : Stream) (x : Ran) (f : Option Refusal) → outcomeOf at (behind p x) f ≡ ahead (map written p) (outcomeOf (suc at) x f)
+outcome-behind : (at : ℕ) (p : Stream) (x : Ran) (f : Option Refusal) → outcomeOf at (behind p x) f ≡ ahead (map byteOf p) (outcomeOf (suc at) x f)
 outcome-behind at p (refused i) f =
     let e : at + suc i ≡ suc at + i = omega arith in
     ap (λ (n : ℕ). refuse (Refusal.NoFenceWillDo n)) e
-outcome-behind at p (done out) none = ap put (map-append written p out)
+outcome-behind at p (done out) none = ap put (map-append byteOf p out)
 outcome-behind at p (done out) (some why) = refl
 
 module _ (way : Way) (up target : Model) where

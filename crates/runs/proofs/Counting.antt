@@ -1,12 +1,11 @@
 -- Laws of counting the fences of an output. Assumes nothing.
-use Prim.Native.Nat.{ℕ, suc, _+_, _≤_, _<_}
-use mathlib.Core.Path.{_≡_, refl, sym, ap, _∙_}
-use mathlib.Core.List.{List, [], _∷_, _++_}
+use Prim.Native.Nat.{ℕ, _+_, _≤_, _<_}
+use mathlib.Core.Path.{_≡_, sym, ap, _∙_}
+use mathlib.Core.List.{List}
 use native.Mathlib.Numerals.{add-one}
-use native.Mathlib.Omega.{arith}
 use lib.ListN.{length, getD, drop, drop-of-length-le}
 use lib.Seq.{drop-cons}
-use Rattle.rule.specs.Operation.{byteIs}
+use Rattle.operations.specs.Operation.{byteIs}
 use Rattle.runs.specs.Bytes.{isFence, fenceBytes}
 
 pub fences-next : (bytes : List ℕ) (i : ℕ) → i < length bytes

@@ -2,12 +2,12 @@
 use mathlib.Core.Path.{_≡_, refl}
 use mathlib.Core.List.{map}
 use Rattle.tables.specs.Table.{table, mergedTable}
+use Rattle.operations.specs.Operation.{byteIs}
+use Rattle.rule.specs.Pairs.{settled}
+use Rattle.rule.specs.Rule.{rule, onward}
 use Rattle.built_ins.specs.BuiltIns.{rows, under, builtIns, builtIn}
 use Rattle.models.specs.Reading.{headAt, fenceAt, nameIn, tableIn, ended, linesFrom, reading}
 use Rattle.models.specs.Scan.{follow, nameRun, nameStep}
-use Rattle.rule.specs.Operation.{byteIs}
-use Rattle.rule.specs.Pairs.{settled}
-use Rattle.rule.specs.Rule.{rule, onward}
 use Rattle.runs.specs.Bytes.{operations, fault, direct}
 use Rattle.runs.specs.Marked.{Entry, marked, ran}
 

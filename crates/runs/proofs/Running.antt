@@ -1,18 +1,18 @@
 -- The run of a stream, turn by turn: what is laid so far and what is left to run are the whole run. Assumes nothing.
-use Prim.Native.Nat.{ℕ, zero, suc, _+_, _*_, _≤_, _<_}
+use Prim.Native.Nat.{ℕ, _+_, _*_, _≤_, _<_}
 use mathlib.Core.Path.{_≡_, refl, sym, ap, subst, _∙_}
 use mathlib.Core.List.{List, [], _∷_, _++_, append-nil, append-assoc}
 use native.Mathlib.Numerals.{add-one}
 use native.Mathlib.Omega.{arith}
 use lib.ListN.{length, getD, take, drop, set, length-set, drop-of-length-le}
 use lib.Seq.{drop-cons, take-suc-set}
+use Rattle.ground.proofs.Truths.{differ}
 use Rattle.answers.specs.declared.Refusal.{Refusal}
+use Rattle.operations.specs.Operation.{fenceByte}
 use Rattle.rule.specs.declared.situation.Situation.{Situation}
 use Rattle.rule.specs.declared.way.Way.{Way}
-use Rattle.rule.specs.Operation.{fenceByte}
 use Rattle.rule.specs.Pairs.{Model}
 use Rattle.rule.specs.Situation.{fresh}
-use Rattle.rule.proofs.Choices.{differ}
 use Rattle.runs.proofs.ByMoves.{ahead-none}
 use Rattle.runs.specs.declared.Move.{Move}
 use Rattle.runs.specs.declared.Progress.{Progress}

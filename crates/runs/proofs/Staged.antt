@@ -5,9 +5,9 @@ use mathlib.Core.List.{List}
 use lib.ListN.{length}
 use Rattle.answers.specs.declared.Refusal.{Refusal}
 use Rattle.answers.specs.declared.Answer.{Answer}
-use Rattle.models.specs.declared.model.Verdict.{Verdict}
-use Rattle.models.specs.declared.model.Reading.{Reading}
+use Rattle.answers.specs.declared.Verdict.{Verdict}
 use Rattle.rule.specs.Pairs.{Model}
+use Rattle.models.specs.declared.model.Reading.{Reading}
 use Rattle.runs.specs.Bytes.{Outcome, refuse}
 use Rattle.runs.specs.Call.{modelOf, onVerdict, onReading, answerOf, bufferOf}
 

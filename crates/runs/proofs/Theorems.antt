@@ -2,29 +2,28 @@
 -- Assumes nothing.
 use Prim.Native.Nat.{ℕ, suc, _≤_, _<_}
 use mathlib.Core.Path.{_≡_, refl, sym, ap, ap₂, _∙_}
-use mathlib.Core.Bool.{Bool, true, false}
+use mathlib.Core.Bool.{Bool, true, false, cond}
 use mathlib.Core.List.{List, [], _∷_, _++_, map}
 use mathlib.Core.Option.{Option, none, some}
 use borrow.Author.Tests.{ltb-false}
 use lib.Dec.{ltb}
 use lib.ListN.{length}
-use Rattle.tables.specs.Table.{choose}
+use Rattle.ground.proofs.Truths.{differ}
 use Rattle.answers.specs.declared.Refusal.{Refusal}
-use Rattle.models.specs.declared.model.Verdict.{Verdict}
-use Rattle.models.specs.declared.model.Reading.{Reading}
-use Rattle.models.specs.Reading.{reading}
+use Rattle.answers.specs.declared.Verdict.{Verdict}
+use Rattle.operations.specs.Operation.{byteOf}
 use Rattle.rule.specs.declared.way.Way.{Way}
-use Rattle.rule.specs.Operation.{written}
 use Rattle.rule.specs.Stream.{Stream, fence, accesses, count, kindAt, fences, before, through}
 use Rattle.rule.specs.Pairs.{Model, Keeps, settled}
 use Rattle.rule.specs.Rule.{Ran, done, refused, run, Placing}
-use Rattle.rule.proofs.Choices.{differ, Takes}
+use Rattle.rule.proofs.Choices.{Takes}
 use Rattle.rule.proofs.Kept.{Settled}
 use Rattle.rule.proofs.Theorems.{same-accesses, every-pair-kept, fence-exactly-when, nothing-at-the-end, fewest-fences}
+use Rattle.models.specs.Reading.{reading}
 use Rattle.runs.proofs.Judging.{good-byte}
 use Rattle.runs.specs.declared.WayRead.{WayRead}
 use Rattle.runs.specs.Bytes.{Judged, good, bad, judged, operations, operationsFrom, fault, faultFrom, Outcome, put, refuse, outcomeOf, direct}
-use Rattle.runs.specs.Call.{wayOf, modelOf, onWay, onVerdict, onReading, onStream, onto, under, outcome}
+use Rattle.runs.specs.Call.{wayOf, modelOf, onWay, onVerdict, onStream, onto, under, outcome}
 
 -- a call that puts bytes out: its way, its two models as the rule sees them, the operations that its stream and its output are, and the run
 pub record Accepted (number : ℕ) (upstream target stream bytes : List ℕ) : Type 0 where
@@ -35,20 +34,20 @@ pub record Accepted (number : ℕ) (upstream target stream bytes : List ℕ) : T
   pub within : length stream ≤ 4096
   pub input : Stream
   pub output : Stream
-  pub reads : stream ≡ map written input
-  pub writes : bytes ≡ map written output
+  pub reads : stream ≡ map byteOf input
+  pub writes : bytes ≡ map byteOf output
   pub ran : run way (modelOf (reading upstream .model)) (modelOf (reading target .model)) input ≡ done output
 
 -- a stream without fault is the bytes of its operations
-faultless : (n at : ℕ) (stream : List ℕ) → fault n at stream ≡ none → map written (operations n at stream) ≡ stream
+faultless : (n at : ℕ) (stream : List ℕ) → fault n at stream ≡ none → map byteOf (operations n at stream) ≡ stream
 unfolding fault operations
 faultless n at [] e = refl
 faultless n at (b ∷ stream) e = by (judged n at b) refl (λ h. faultless n (suc at) stream h)
   where
-    by : (j : Judged) → judged n at b ≡ j → (fault n (suc at) stream ≡ none → map written (operations n (suc at) stream) ≡ stream)
-        → map written (operations n at (b ∷ stream)) ≡ b ∷ stream
+    by : (j : Judged) → judged n at b ≡ j → (fault n (suc at) stream ≡ none → map byteOf (operations n (suc at) stream) ≡ stream)
+        → map byteOf (operations n at (b ∷ stream)) ≡ b ∷ stream
     by (good op) h rest =
-        ap (λ (x : Judged). map written (operationsFrom x (operations n (suc at) stream))) h
+        ap (λ (x : Judged). map byteOf (operationsFrom x (operations n (suc at) stream))) h
         ∙ ap₂ (λ (c : ℕ) (l : List ℕ). c ∷ l) (good-byte n at b op h) (rest (sym (ap (λ (x : Judged). faultFrom x (fault n (suc at) stream)) h) ∙ e))
     by (bad why) h rest =
         let z : some why ≡ none = sym (ap (λ (x : Judged). faultFrom x (fault n (suc at) stream)) h) ∙ e in
@@ -57,7 +56,7 @@ faultless n at (b ∷ stream) e = by (judged n at b) refl (λ h. faultless n (su
 -- a direct run that puts bytes out has no fault, and they are those of its output
 direct-put : (way : Way) (up target : Model) (stream bytes : List ℕ) → direct way up target stream ≡ put bytes
     → (output : Stream) × (run way up target (operations (length (up .fences)) 0 stream) ≡ done output) × (fault (length (up .fences)) 0 stream ≡ none)
-    × (bytes ≡ map written output)
+    × (bytes ≡ map byteOf output)
 unfolding direct
 direct-put way up target stream bytes e =
     by (run way up target (operations (length (up .fences)) 0 stream)) refl (fault (length (up .fences)) 0 stream) refl e
@@ -65,7 +64,7 @@ direct-put way up target stream bytes e =
     by : (r : Ran) → run way up target (operations (length (up .fences)) 0 stream) ≡ r → (f : Option Refusal) → fault (length (up .fences)) 0 stream ≡ f
         → outcomeOf 0 r f ≡ put bytes
         → (output : Stream) × (run way up target (operations (length (up .fences)) 0 stream) ≡ done output)
-        × (fault (length (up .fences)) 0 stream ≡ none) × (bytes ≡ map written output)
+        × (fault (length (up .fences)) 0 stream ≡ none) × (bytes ≡ map byteOf output)
     by (refused i) r f g h = differ (cc)
     by (done out) r none g h = (out, r, g, (cc))
     by (done out) r (some why) g h = differ (cc)
@@ -83,7 +82,7 @@ verdict-put (Verdict.Refused why) x bytes e = differ (cc)
 stream-put : (stream : List ℕ) (x : Outcome) (bytes : List ℕ) → onStream stream x ≡ put bytes → (length stream ≤ 4096) × (x ≡ put bytes)
 stream-put stream x bytes e = by (ltb 4096 (length stream)) refl e
   where
-    by : (b : Bool) → ltb 4096 (length stream) ≡ b → choose b (refuse Refusal.OverLimit) x ≡ put bytes → (length stream ≤ 4096) × (x ≡ put bytes)
+    by : (b : Bool) → ltb 4096 (length stream) ≡ b → cond b (refuse Refusal.OverLimit) x ≡ put bytes → (length stream ≤ 4096) × (x ≡ put bytes)
     by true h z = differ (cc)
     by false h z = (ltb-false 4096 (length stream) h, z)
 

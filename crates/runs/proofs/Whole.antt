@@ -4,11 +4,11 @@ use mathlib.Core.Path.{_≡_}
 use mathlib.Core.List.{List, map}
 use native.Mathlib.Omega.{arith}
 use lib.ListN.{length, replicate, length-append, length-map}
-use Rattle.models.specs.declared.model.Verdict.{Verdict}
+use Rattle.ground.proofs.Truths.{differ}
+use Rattle.answers.specs.declared.Verdict.{Verdict}
 use Rattle.models.specs.declared.model.Reading.{Reading}
 use Rattle.models.specs.Model.{Fence}
 use Rattle.models.specs.Reading.{Told, over, departs, repeated, accepted}
-use Rattle.rule.proofs.Choices.{differ}
 use Rattle.runs.specs.Call.{Whole}
 
 pub whole-when : {t : List ℕ} {r : Reading} → Told t r → r .verdict ≡ Verdict.Accepted → Whole (r .model)

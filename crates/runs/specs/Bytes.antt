@@ -2,16 +2,16 @@
 -- each at its index, and "the earliest of 4, 5, 6 in the stream". "Success returns .. fences inserted".
 -- Up to the first byte at fault by 4 or 5 a stream is operations, and these are run by the rule: a refusal there, 6, is earlier.
 use Prim.Native.Nat.{ℕ, suc, _+_}
+use mathlib.Core.Bool.{cond}
 use mathlib.Core.List.{List, [], _∷_, map}
 use mathlib.Core.Option.{Option, none, some}
 use lib.Dec.{ltb}
 use lib.ListN.{length}
-use Rattle.tables.specs.Table.{choose}
 use Rattle.answers.specs.declared.Refusal.{Refusal}
-use Rattle.rule.specs.declared.operation.Operation.{Operation}
-use Rattle.rule.specs.declared.operation.Byte.{Byte}
+use Rattle.operations.specs.declared.Operation.{Operation}
+use Rattle.operations.specs.declared.Byte.{Byte}
+use Rattle.operations.specs.Operation.{byteIs, byteOf}
 use Rattle.rule.specs.declared.way.Way.{Way}
-use Rattle.rule.specs.Operation.{byteIs, written}
 use Rattle.rule.specs.Stream.{Stream}
 use Rattle.rule.specs.Pairs.{Model}
 use Rattle.rule.specs.Rule.{Ran, done, refused, run}
@@ -24,7 +24,7 @@ pub data Judged : Type 0 where
 abbrev pub judgedAs : ℕ → ℕ → Byte → Judged
 judgedAs n at Byte.Nothing = bad (Refusal.NoOperation at)
 judgedAs n at (Byte.Is (Operation.Access k)) = good (Operation.Access k)
-judgedAs n at (Byte.Is (Operation.Fence f)) = choose (ltb f n) (good (Operation.Fence f)) (bad (Refusal.NoSuchFence at))
+judgedAs n at (Byte.Is (Operation.Fence f)) = cond (ltb f n) (good (Operation.Fence f)) (bad (Refusal.NoSuchFence at))
 
 abbrev pub judged : ℕ → ℕ → ℕ → Judged
 judged n at b = judgedAs n at (byteIs b)
@@ -54,7 +54,7 @@ pub data Outcome : Type 0 where
 -- a run of operations that began at an index of the input, with the fault that ended them
 abbrev pub outcomeOf : ℕ → Ran → Option Refusal → Outcome
 outcomeOf at (refused i) f = refuse (Refusal.NoFenceWillDo (at + i))
-outcomeOf at (done out) none = put (map written out)
+outcomeOf at (done out) none = put (map byteOf out)
 outcomeOf at (done out) (some why) = refuse why
 
 -- the direct run of a stream of bytes, by the rule

@@ -3,24 +3,24 @@
 -- with place 0, bytes written, fences inserted ..; bytes past those written stay." A stream has at most 4,096 operations.
 -- Way numbers are those of the image layout: 0 sparing, 1 full.
 use Prim.Native.Nat.{ℕ, _≤_}
+use mathlib.Core.Bool.{cond}
 use mathlib.Core.List.{List}
 use lib.Dec.{ltb, eqb}
 use lib.ListN.{length, take}
-use Rattle.tables.specs.Table.{choose}
 use Rattle.answers.specs.declared.Refusal.{Refusal}
 use Rattle.answers.specs.declared.Answer.{Answer}
 use Rattle.answers.specs.Written.{written, writing}
-use Rattle.models.specs.declared.model.Model as Held
-use Rattle.models.specs.declared.model.Verdict.{Verdict}
-use Rattle.models.specs.declared.model.Reading.{Reading}
-use Rattle.models.specs.Reading.{reading}
+use Rattle.answers.specs.declared.Verdict.{Verdict}
 use Rattle.rule.specs.declared.way.Way.{Way}
 use Rattle.rule.specs.Pairs.{Model}
+use Rattle.models.specs.declared.model.Model as Held
+use Rattle.models.specs.declared.model.Reading.{Reading}
+use Rattle.models.specs.Reading.{reading}
 use Rattle.runs.specs.declared.WayRead.{WayRead}
 use Rattle.runs.specs.Bytes.{Outcome, put, refuse, direct, fenceBytes}
 
 abbrev pub wayOf : ℕ → WayRead
-wayOf n = choose (eqb n 0) (WayRead.Is Way.Sparing) (choose (eqb n 1) (WayRead.Is Way.Full) WayRead.Nothing)
+wayOf n = cond (eqb n 0) (WayRead.Is Way.Sparing) (cond (eqb n 1) (WayRead.Is Way.Full) WayRead.Nothing)
 
 -- a model as the rule sees it: its default table and the tables of its fences
 abbrev pub modelOf : Held.Model → Model
@@ -44,7 +44,7 @@ abbrev pub onReading : Reading → (Model → Outcome) → Outcome
 onReading r more = onVerdict (r .verdict) (more (modelOf (r .model)))
 
 abbrev pub onStream : List ℕ → Outcome → Outcome
-onStream stream more = choose (ltb 4096 (length stream)) (refuse Refusal.OverLimit) more
+onStream stream more = cond (ltb 4096 (length stream)) (refuse Refusal.OverLimit) more
 
 -- with the upstream model read; with the way read; the whole call
 abbrev pub onto : Way → Model → List ℕ → List ℕ → Outcome

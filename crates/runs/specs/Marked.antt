@@ -2,8 +2,8 @@
 use Prim.Native.Nat.{ℕ}
 use Prim.Native.String.{String}
 use mathlib.Core.List.{List, [], _∷_}
+use Rattle.ground.specs.Bytes.{bytes}
 use Rattle.answers.specs.declared.Refusal.{Refusal}
-use Rattle.models.specs.Bytes.{bytes}
 use Rattle.models.specs.Model.{Description}
 use Rattle.built_ins.specs.BuiltIns.{builtIn, model, none}
 use Rattle.models.specs.Text.{textOf}

@@ -1,21 +1,20 @@
 -- The direct run byte by byte, with the situation of the past: what the code does. It is proved to be the run by the rule.
 use Prim.Native.Nat.{ℕ, suc, _+_, _≤_}
 use mathlib.Core.Path.{_≡_}
+use mathlib.Core.Bool.{cond}
 use mathlib.Core.List.{List, [], _∷_, _++_}
 use lib.Dec.{ltb}
 use lib.ListN.{length, set, take}
-use Rattle.tables.specs.Table.{choose}
-use Rattle.tables.specs.declared.table.Table.{Table}
 use Rattle.answers.specs.declared.Refusal.{Refusal}
-use Rattle.rule.specs.declared.operation.Operation.{Operation}
+use Rattle.tables.specs.declared.table.Table.{Table}
+use Rattle.operations.specs.declared.Operation.{Operation}
+use Rattle.operations.specs.Operation.{fenceByte}
 use Rattle.rule.specs.declared.situation.Situation.{Situation}
 use Rattle.rule.specs.declared.way.Way.{Way}
 use Rattle.rule.specs.declared.way.Step.{Step}
-use Rattle.rule.specs.Operation.{fenceByte}
 use Rattle.rule.specs.Pairs.{Model, tableAt, fenceTable}
 use Rattle.rule.specs.Situation.{asks, stepped}
 use Rattle.runs.specs.declared.Move.{Move}
-use Rattle.runs.specs.declared.Progress.{Progress}
 use Rattle.runs.specs.declared.Turn.{Turn}
 use Rattle.runs.specs.declared.Ended.{Ended}
 use Rattle.runs.specs.Bytes.{Judged, good, bad, judged, Outcome, put, refuse}
@@ -33,7 +32,7 @@ movedAs way up target s at (bad why) = Move.Refused why
 
 -- what an upstream fence of this number does
 abbrev pub asked : List ℕ → Situation → ℕ → ℕ → Move
-asked fences s at f = choose (ltb f (length fences)) (Move.Silent (asks (tableAt fences f) s)) (Move.Refused (Refusal.NoSuchFence at))
+asked fences s at f = cond (ltb f (length fences)) (Move.Silent (asks (tableAt fences f) s)) (Move.Refused (Refusal.NoSuchFence at))
 
 abbrev pub moved : Way → Model → Model → Situation → ℕ → ℕ → Move
 moved way up target s at b = movedAs way up target s at (judged (length (up .fences)) at b)

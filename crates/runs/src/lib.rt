@@ -1,20 +1,19 @@
 // The direct run: two model texts, a way, a stream and a buffer.
-ghost use mathlib.Core.Path.{_≡_};
 ghost use Prim.Native.Nat.{_+_, _≤_, _<_};
+ghost use mathlib.Core.Path.{_≡_};
 ghost use lib.ListN.{length, take};
+ghost use Rattle.operations.specs.Operation.{byteIs};
 ghost use Rattle.rule.specs.Situation.{fresh, stepped};
-ghost use Rattle.rule.specs.Operation.{byteIs};
-ghost use Rattle.runs.specs.Bytes.{isFence, fenceBytes};
+ghost use Rattle.runs.specs.Bytes.{isFence, fenceBytes, direct};
 ghost use Rattle.runs.specs.Call.{wayOf, modelOf, Whole, onStream, onto, under, outcome, answerOf, bufferOf};
 ghost use Rattle.runs.specs.Moves.{moved, moves, turned, laid, side, movedBy, asked, given, Fits, Ends};
-ghost use Rattle.runs.specs.Bytes.{direct};
 use answers::Answer;
 use answers::Refusal;
+use answers::Verdict;
 use models::model::Model;
-use models::model::Verdict;
-use rule::operation::Byte;
-use rule::operation::Kind;
-use rule::operation::Operation;
+use operations::Byte;
+use operations::Kind;
+use operations::Operation;
 use rule::situation::Situation;
 use rule::way::Step;
 use rule::way::Way;
@@ -84,7 +83,7 @@ pub fn fences_in(bytes: &[u8]) -> usize
 fn one_if_fence(byte: u8) -> usize
     ensures { λ r. ⌜ (r ≡ isFence (byteIs byte)) × (r ≤ 1) ⌝ }
 {
-    let read = rule::operation::read_byte(byte);
+    let read = operations::read_byte(byte);
     match read {
         Byte::Nothing => 0,
         Byte::Is(operation) => match operation {
@@ -129,7 +128,7 @@ fn advance<'a>(
 ) -> Move
     ensures { λ r. ⌜ r ≡ moved (shim .way) (side (shim .upstream) (now (fences .entry))) (side (shim .target) (now (targets .entry))) situation at byte ⌝ }
 {
-    let read = rule::operation::read_byte(byte);
+    let read = operations::read_byte(byte);
     match read {
         Byte::Nothing => Move::Refused(Refusal::NoOperation(at)),
         Byte::Is(operation) => match operation {
@@ -158,7 +157,7 @@ fn lay(step: Move, byte: u8, written: usize, buffer: &mut [u8]) -> Turn
             })
         }
         Move::Fenced(g, next) => {
-            buffer[written] = rule::operation::byte_of(Operation::Fence(g));
+            buffer[written] = operations::byte_of(Operation::Fence(g));
             buffer[written + 1] = byte;
             Turn::On(Progress {
                 situation: next,

@@ -1,12 +1,12 @@
 -- Laws of a cell where it exceeds another. Assumes nothing.
 use Prim.Native.Nat.{ℕ, _≤_, _<_, max, min}
 use mathlib.Core.Path.{_≡_}
-use mathlib.Core.Bool.{Bool, true, false}
+use mathlib.Core.Bool.{Bool, true, false, cond}
 use native.Mathlib.Decide.{decLe}
 use native.Mathlib.Omega.{arith}
 use borrow.Author.Tests.{lt-ltb, le-ltb}
 use lib.Dec.{ltb}
-use Rattle.tables.specs.Table.{choose, excess}
+use Rattle.tables.specs.Table.{excess}
 
 pub excess-none : (a b : ℕ) → a ≤ b → excess a b ≡ 0
 excess-none a b h = simp (le-ltb _ _ h)
@@ -17,7 +17,7 @@ excess-some a b h = simp (lt-ltb _ _ h)
 pub excess-below : (a b n : ℕ) → a < n → excess a b < n
 excess-below a b n h = under (ltb b a)
   where
-    under : (t : Bool) → choose t a 0 < n
+    under : (t : Bool) → cond t a 0 < n
     under true = h
     under false = omega arith
 

@@ -1,19 +1,19 @@
 -- Laws of tables, which callers cite instead of looking at bits: a table is known by its cells. Assumes nothing.
-use Prim.Native.Nat.{ℕ, zero, suc, _+_, _*_, _/_, _%_, _^_, _≤_, _<_, max, min}
+use Prim.Native.Nat.{ℕ, zero, suc, _*_, _/_, _%_, _^_, _≤_, _<_, max, min}
 use mathlib.Core.Path.{_≡_, refl, sym, ap, ap₂, _∙_}
-use mathlib.Core.Bool.{Bool, true, false}
+use mathlib.Core.Bool.{Bool, true, cond}
+use mathlib.Core.List.{List}
 use native.Mathlib.Nat.{mod-lt, mod-eq-of-lt, zero-div}
 use native.Mathlib.Omega.{arith}
 use native.Mathlib.Decide.{decLt}
 use borrow.Author.Tests.{eq-eqb, eqb-true, lt-ltb, le-ltb}
-use lib.Dec.{eqb, ltb, lit<}
+use lib.Dec.{ltb, lit<}
+use lib.ListN.{getD}
 use Rattle.tables.specs.declared.table.Row.{Row}
 use Rattle.tables.specs.declared.table.Column.{Column}
 use Rattle.tables.specs.declared.table.Table.{Table}
 use Rattle.tables.specs.Cells.{digit, packed}
-use Rattle.tables.specs.Table.{rowNumber, columnNumber, cells, place, cell, choose, rowOf, columnOf, table, Clean, excess, Merge, merged, mergedTable, pickedTable, atLeast, levelsTable}
-use mathlib.Core.List.{List}
-use lib.ListN.{getD}
+use Rattle.tables.specs.Table.{rowNumber, columnNumber, cells, place, cell, rowOf, columnOf, table, Clean, excess, Merge, merged, mergedTable, pickedTable, atLeast, levelsTable}
 use Rattle.tables.proofs.Excess.{excess-none, excess-below, excess-lifts}
 use Rattle.tables.proofs.Packed.{packed-below, packed-cong, digit-packed, packed-own}
 
@@ -136,13 +136,13 @@ cell-none r c = ap (λ (n : ℕ). n % 4) (zero-div (2 ^ (2 * place r c)))
 
 -- what is picked place by place is the picked table
 pub picked-places : (a b x y : Table)
-    → record { packed = packed (λ (i : ℕ). choose (ltb (digit (b .packed) i) (digit (a .packed) i)) (digit (x .packed) i) (digit (y .packed) i)) cells }
+    → record { packed = packed (λ (i : ℕ). cond (ltb (digit (b .packed) i) (digit (a .packed) i)) (digit (x .packed) i) (digit (y .packed) i)) cells }
     ≡ pickedTable a b x y
 unfolding pickedTable table
 picked-places a b x y =
     ap (λ (n : ℕ). record { packed = n })
-    (packed-cong (λ (i : ℕ). choose (ltb (digit (b .packed) i) (digit (a .packed) i)) (digit (x .packed) i) (digit (y .packed) i)) _ cells
-    (λ i l. ap (λ (k : ℕ). choose (ltb (digit (b .packed) k) (digit (a .packed) k)) (digit (x .packed) k) (digit (y .packed) k)) (sym (place-own i l))))
+    (packed-cong (λ (i : ℕ). cond (ltb (digit (b .packed) i) (digit (a .packed) i)) (digit (x .packed) i) (digit (y .packed) i)) _ cells
+    (λ i l. ap (λ (k : ℕ). cond (ltb (digit (b .packed) k) (digit (a .packed) k)) (digit (x .packed) k) (digit (y .packed) k)) (sym (place-own i l))))
 
 -- the three tables made of two are picked so
 module _ (a b : Table) where
@@ -150,27 +150,27 @@ module _ (a b : Table) where
   unfolding pickedTable
   picked-higher = table-merged Merge.Higher a b _ (λ r c. at (cell a r c) (cell b r c))
     where
-      at : (x y : ℕ) → choose (ltb y x) x y ≡ max x y
+      at : (x y : ℕ) → cond (ltb y x) x y ≡ max x y
       at x y = by (decLt y x)
         where
-          by : Dec (y < x) → choose (ltb y x) x y ≡ max x y
-          by (yes l) = ap (λ (t : Bool). choose t x y) (lt-ltb y x l) ∙ omega arith
-          by (no l) = ap (λ (t : Bool). choose t x y) (le-ltb y x (omega arith)) ∙ omega arith
+          by : Dec (y < x) → cond (ltb y x) x y ≡ max x y
+          by (yes l) = ap (λ (t : Bool). cond t x y) (lt-ltb y x l) ∙ omega arith
+          by (no l) = ap (λ (t : Bool). cond t x y) (le-ltb y x (omega arith)) ∙ omega arith
 
   pub picked-lower : pickedTable a b b a ≡ mergedTable Merge.Lower a b
   unfolding pickedTable
   picked-lower = table-merged Merge.Lower a b _ (λ r c. at (cell a r c) (cell b r c))
     where
-      at : (x y : ℕ) → choose (ltb y x) y x ≡ min x y
+      at : (x y : ℕ) → cond (ltb y x) y x ≡ min x y
       at x y = by (decLt y x)
         where
-          by : Dec (y < x) → choose (ltb y x) y x ≡ min x y
-          by (yes l) = ap (λ (t : Bool). choose t y x) (lt-ltb y x l) ∙ omega arith
-          by (no l) = ap (λ (t : Bool). choose t y x) (le-ltb y x (omega arith)) ∙ omega arith
+          by : Dec (y < x) → cond (ltb y x) y x ≡ min x y
+          by (yes l) = ap (λ (t : Bool). cond t y x) (lt-ltb y x l) ∙ omega arith
+          by (no l) = ap (λ (t : Bool). cond t y x) (le-ltb y x (omega arith)) ∙ omega arith
 
   pub picked-exceeding : pickedTable a b a (record { packed = 0 }) ≡ mergedTable Merge.Exceeding a b
   unfolding pickedTable
-  picked-exceeding = table-merged Merge.Exceeding a b _ (λ r c. ap (choose (ltb (cell b r c) (cell a r c)) (cell a r c)) (cell-none r c))
+  picked-exceeding = table-merged Merge.Exceeding a b _ (λ r c. ap (cond (ltb (cell b r c) (cell a r c)) (cell a r c)) (cell-none r c))
 
 pub merged-clean : (how : Merge) (a b : Table) → Clean (mergedTable how a b)
 unfolding mergedTable

@@ -2,16 +2,12 @@
 -- Assumes nothing.
 use Prim.Native.Nat.{ℕ, zero, suc, _+_, _*_, _-_, _/_, _%_, _^_, _≤_, _<_, max, min}
 use mathlib.Core.Path.{_≡_, refl, sym, ap, ap₂, subst, _∙_}
-use mathlib.Core.Bool.{Bool, true, false}
+use mathlib.Core.Bool.{Bool, true, false, cond}
 use native.Mathlib.Nat.{add-mul, mul-assoc, add-comm, mod-eq-of-lt, mod-lt, div-div-eq-div-mul, mul-comm}
-use native.Mathlib.Decide.{decLt}
 use native.Mathlib.Omega.{arith}
-use borrow.Author.Tests.{lt-ltb, le-ltb}
 use lib.Bits.{bitAnd, bitOr, bitXor, and-block, or-block, xor-block, and-lt, or-lt, xor-lt, and-shr, and-mod, and-mask, and-le-r}
-use lib.Dec.{ltb, lit<}
-use lib.Pow.{pow-pos}
+use lib.Dec.{ltb}
 use Rattle.tables.specs.Cells.{digit, packed, ones, over}
-use Rattle.tables.specs.Table.{choose}
 use Rattle.tables.proofs.Packed.{packed-below, packed-cong, packed-own, digit-packed}
 
 -- an operation that goes block by block goes cell by cell
@@ -123,12 +119,12 @@ below-four P a b c d (suc (suc zero)) l = c
 below-four P a b c d (suc (suc (suc zero))) l = d
 below-four P a b c d (suc (suc (suc (suc n)))) l = absurd (omega arith)
 
-over-is : (x y : ℕ) → x < 4 → y < 4 → over x y ≡ choose (ltb y x) 1 0
-over-is x y lx ly = below-four (λ (x : ℕ). over x y ≡ choose (ltb y x) 1 0) (first 0 refl refl refl refl) (first 1 refl refl refl refl) (first 2 refl refl refl refl) (first 3 refl refl refl refl) x lx
+over-is : (x y : ℕ) → x < 4 → y < 4 → over x y ≡ cond (ltb y x) 1 0
+over-is x y lx ly = below-four (λ (x : ℕ). over x y ≡ cond (ltb y x) 1 0) (first 0 refl refl refl refl) (first 1 refl refl refl refl) (first 2 refl refl refl refl) (first 3 refl refl refl refl) x lx
   where
-    first : (x : ℕ) → over x 0 ≡ choose (ltb 0 x) 1 0 → over x 1 ≡ choose (ltb 1 x) 1 0 → over x 2 ≡ choose (ltb 2 x) 1 0 → over x 3 ≡ choose (ltb 3 x) 1 0
-        → over x y ≡ choose (ltb y x) 1 0
-    first x a b c d = below-four (λ (y : ℕ). over x y ≡ choose (ltb y x) 1 0) a b c d y ly
+    first : (x : ℕ) → over x 0 ≡ cond (ltb 0 x) 1 0 → over x 1 ≡ cond (ltb 1 x) 1 0 → over x 2 ≡ cond (ltb 2 x) 1 0 → over x 3 ≡ cond (ltb 3 x) 1 0
+        → over x y ≡ cond (ltb y x) 1 0
+    first x a b c d = below-four (λ (y : ℕ). over x y ≡ cond (ltb y x) 1 0) a b c d y ly
 
 bit-min : (p q : ℕ) → min p (1 - q) ≤ 1
 bit-min p q = omega arith
@@ -155,7 +151,7 @@ min-bit p q l = omega arith
 abbrev pub pick : ℕ → ℕ → ℕ → ℕ
 pick g x y = max (min x g) (min y (1 - g))
 
-pick-cell : (t : Bool) (x y : ℕ) → x < 4 → y < 4 → 2 * pick (choose t 1 0) (x / 2) (y / 2) + pick (choose t 1 0) (x % 2) (y % 2) ≡ choose t x y
+pick-cell : (t : Bool) (x y : ℕ) → x < 4 → y < 4 → 2 * pick (cond t 1 0) (x / 2) (y / 2) + pick (cond t 1 0) (x % 2) (y % 2) ≡ cond t x y
 pick-cell true x y lx ly = omega arith
 pick-cell false x y lx ly = omega arith
 
@@ -215,7 +211,7 @@ module _ (a b x y : ℕ) where
   pub picked-joined :
       2 * packed (λ (i : ℕ). pick (over (digit a i) (digit b i)) (digit x i / 2) (digit y i / 2)) 16
       + packed (λ (i : ℕ). pick (over (digit a i) (digit b i)) (digit x i % 2) (digit y i % 2)) 16
-      ≡ packed (λ (i : ℕ). choose (ltb (digit b i) (digit a i)) (digit x i) (digit y i)) 16
+      ≡ packed (λ (i : ℕ). cond (ltb (digit b i) (digit a i)) (digit x i) (digit y i)) 16
   picked-joined =
       joined-planes (λ (i : ℕ). pick (over (digit a i) (digit b i)) (digit x i / 2) (digit y i / 2))
       (λ (i : ℕ). pick (over (digit a i) (digit b i)) (digit x i % 2) (digit y i % 2))

@@ -1,7 +1,7 @@
 -- Contracts that determine: two results that the same equation allows are equal. Every function whose contract is an equation cites this.
 -- Assumes nothing.
-use mathlib.Core.Path.{_≡_, sym, ap, _∙_}
 use Prim.Native.Nat.{ℕ}
+use mathlib.Core.Path.{_≡_, sym, ap, _∙_}
 use Rattle.tables.specs.declared.strength.Strength.{Strength}
 
 pub one-answer {ℓ} : {A : Type ℓ} {x y answer : A} → x ≡ answer → y ≡ answer → x ≡ y

@@ -3,8 +3,7 @@
 -- ld, st, each with columns for the later access in the order ld, cld, st, cst."
 -- A cell is its level: 0 for `-`, 1 for `N`, 2 for `M`, 3 for `S`.
 use Prim.Native.Nat.{ℕ, _+_, _*_, _/_, _%_, _^_, _<_, max, min}
-use mathlib.Core.Bool.{Bool, true, false}
-use mathlib.Core.Path.{_≡_}
+use mathlib.Core.Bool.{Bool, cond}
 use mathlib.Core.List.{List}
 use lib.ListN.{getD}
 use lib.Dec.{ltb, eqb}
@@ -36,16 +35,12 @@ place r c = 4 * rowNumber r + columnNumber c
 abbrev pub cell : Table → Row → Column → ℕ
 cell t r c = digit (t .packed) (place r c)
 
-abbrev pub choose : {A : Type 0} → Bool → A → A → A
-choose true a b = a
-choose false a b = b
-
 -- the row and the column of a number
 abbrev pub rowOf : ℕ → Row
-rowOf n = choose (eqb n 0) Row.Cld (choose (eqb n 1) Row.Cst (choose (eqb n 2) Row.Ld Row.St))
+rowOf n = cond (eqb n 0) Row.Cld (cond (eqb n 1) Row.Cst (cond (eqb n 2) Row.Ld Row.St))
 
 abbrev pub columnOf : ℕ → Column
-columnOf n = choose (eqb n 0) Column.Ld (choose (eqb n 1) Column.Cld (choose (eqb n 2) Column.St Column.Cst))
+columnOf n = cond (eqb n 0) Column.Ld (cond (eqb n 1) Column.Cld (cond (eqb n 2) Column.St Column.Cst))
 
 -- the table with these cells
 unfoldable pub table : (Row → Column → ℕ) → Table
@@ -57,7 +52,7 @@ Clean t = t .packed < 2 ^ (2 * cells)
 
 -- the first of two cells where it exceeds the second, `-` elsewhere
 abbrev pub excess : ℕ → ℕ → ℕ
-excess a b = choose (ltb b a) a 0
+excess a b = cond (ltb b a) a 0
 
 -- what a cell becomes where two tables are made one
 pub data Merge : Type 0 where
@@ -73,7 +68,7 @@ mergedTable how a b = table (λ (r : Row) (c : Column). merged how (cell a r c) 
 
 -- the cells of x where a exceeds b, and of y elsewhere
 unfoldable pub pickedTable : Table → Table → Table → Table → Table
-pickedTable a b x y = table (λ (r : Row) (c : Column). choose (ltb (cell b r c) (cell a r c)) (cell x r c) (cell y r c))
+pickedTable a b x y = table (λ (r : Row) (c : Column). cond (ltb (cell b r c) (cell a r c)) (cell x r c) (cell y r c))
 
 -- the higher of each cell; the lower of each cell; each cell of the first where it exceeds that of the second
 abbrev pub higher : Table → Table → Table
@@ -91,10 +86,10 @@ atLeast a b = eqb (exceeding b a .packed) 0
 
 -- S in one row or one column, `-` elsewhere
 unfoldable pub rowTable : Row → Table
-rowTable r = table (λ (s : Row) (c : Column). choose (eqb (rowNumber s) (rowNumber r)) 3 0)
+rowTable r = table (λ (s : Row) (c : Column). cond (eqb (rowNumber s) (rowNumber r)) 3 0)
 
 unfoldable pub columnTable : Column → Table
-columnTable c = table (λ (r : Row) (d : Column). choose (eqb (columnNumber d) (columnNumber c)) 3 0)
+columnTable c = table (λ (r : Row) (d : Column). cond (eqb (columnNumber d) (columnNumber c)) 3 0)
 
 -- sixteen levels, row after row
 unfoldable pub levelsTable : List ℕ → Table

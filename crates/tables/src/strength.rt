@@ -1,6 +1,6 @@
 // The four strengths of an order between two accesses.
-ghost use mathlib.Core.Path.{_≡_};
 ghost use Prim.Native.Nat.{max, min};
+ghost use mathlib.Core.Path.{_≡_};
 ghost use lib.Dec.{leb};
 
 pub struct Strength {

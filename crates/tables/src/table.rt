@@ -1,7 +1,7 @@
 // Tables of sixteen cells, packed in one number of row bytes: the first row lowest, in a row the first column lowest. A fifth row has
 // room above the fourth.
-ghost use mathlib.Core.Path.{_≡_};
 ghost use Prim.Native.Nat.{ℕ, _+_, _*_, _/_, _^_, _<_};
+ghost use mathlib.Core.Path.{_≡_};
 ghost use lib.Bits.{bitAnd, bitOr, bitXor};
 ghost use Rattle.tables.specs.Cells.{digit, packed, ones, over};
 ghost use Rattle.tables.specs.Table.{rowNumber, columnNumber, place, cells, cell, higher, lower, exceeding, atLeast, rowTable, columnTable, levelsTable, pickedTable};

@@ -1,16 +1,15 @@
 -- What the writer puts into a buffer, byte by byte and part after part. Assumes nothing.
 use Prim.Native.Nat.{ℕ, zero, suc, _+_, _-_, _≤_, _<_}
-use mathlib.Core.Path.{_≡_, refl, sym, ap, ap₂, _∙_, subst}
-use mathlib.Core.Bool.{Bool, true, false}
+use mathlib.Core.Path.{_≡_, refl, sym, ap, _∙_, subst}
+use mathlib.Core.Bool.{Bool, true, false, cond}
 use mathlib.Core.List.{List, [], _∷_, _++_, append-assoc, append-nil}
 use native.Mathlib.Omega.{arith}
-use native.Mathlib.Nat.{add-zero, suc-add, le-of-suc-le-suc}
+use native.Mathlib.Nat.{suc-add, le-of-suc-le-suc}
 use native.Mathlib.Numerals.{add-one}
 use borrow.Author.Tests.{eq-eqb, ne-eqb}
 use lib.Dec.{eqb}
 use lib.ListN.{length, take, drop, getD, set, length-append, drop-of-length-le}
 use lib.Seq.{take-suc, take-suc-set, take-length, drop-cons}
-use Rattle.tables.specs.Table.{choose}
 use Rattle.models.specs.declared.model.Name.{Name}
 use Rattle.models.specs.Model.{Fence}
 use Rattle.models.specs.Text.{fenceText, fencesText}
@@ -49,14 +48,14 @@ module _ (l : List ℕ) (n : ℕ) (whole : length (unfilled l) ≡ n + length (u
   pub unfilled-zero : n < length l → getD l n 0 ≡ 0 → n ≡ length (unfilled l)
   unfolding unfilled
   unfilled-zero h z =
-      let none : unfilled (drop n l) ≡ [] = ap unfilled (drop-cons l n 0 h) ∙ ap (λ (q : Bool). choose q [] (getD l n 0 ∷ unfilled (drop (suc n) l))) (eq-eqb _ _ z) in
+      let none : unfilled (drop n l) ≡ [] = ap unfilled (drop-cons l n 0 h) ∙ ap (λ (q : Bool). cond q [] (getD l n 0 ∷ unfilled (drop (suc n) l))) (eq-eqb _ _ z) in
       omega (arith, whole, ap length none)
 
   pub unfilled-more : n < length l → (getD l n 0 ≡ 0 → ⊥) → length (unfilled l) ≡ n + 1 + length (unfilled (drop (n + 1) l))
   unfolding unfilled
   unfilled-more h z =
       let more : unfilled (drop n l) ≡ getD l n 0 ∷ unfilled (drop (suc n) l) =
-      ap unfilled (drop-cons l n 0 h) ∙ ap (λ (q : Bool). choose q [] (getD l n 0 ∷ unfilled (drop (suc n) l))) (ne-eqb _ _ z) in
+      ap unfilled (drop-cons l n 0 h) ∙ ap (λ (q : Bool). cond q [] (getD l n 0 ∷ unfilled (drop (suc n) l))) (ne-eqb _ _ z) in
       let up : unfilled (drop (suc n) l) ≡ unfilled (drop (n + 1) l) = ap (λ (k : ℕ). unfilled (drop k l)) (sym (add-one n)) in
       omega (arith, whole, ap length more, ap length up)
 
@@ -71,7 +70,7 @@ unfolding unfilled
 unfilled-front [] = refl
 unfilled-front (b ∷ l) = by (eqb b 0) (unfilled-front l)
   where
-    by : (q : Bool) → take (length (unfilled l)) l ≡ unfilled l → take (length (choose q [] (b ∷ unfilled l))) (b ∷ l) ≡ choose q [] (b ∷ unfilled l)
+    by : (q : Bool) → take (length (unfilled l)) l ≡ unfilled l → take (length (cond q [] (b ∷ unfilled l))) (b ∷ l) ≡ cond q [] (b ∷ unfilled l)
     by true e = refl
     by false e = ap (λ (m : List ℕ). b ∷ m) e
 

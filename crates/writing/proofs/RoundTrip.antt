@@ -1,24 +1,22 @@
 -- Document 01: "Each model has exactly one text." Reading what was written gives the model again, and writing what was read gives the text
 -- again. Assumes nothing.
-use Prim.Native.Nat.{ℕ, zero, suc, _+_, _*_, _-_, _≤_, _<_}
+use Prim.Native.Nat.{ℕ, zero, suc, _+_, _*_, _-_, _≤_}
 use mathlib.Core.Path.{_≡_, refl, sym, ap, ap₂, _∙_, subst}
-use mathlib.Core.Bool.{Bool, true, false}
+use mathlib.Core.Bool.{Bool, cond}
 use mathlib.Core.List.{List, [], _∷_, _++_, map}
 use native.Mathlib.Omega.{arith}
 use borrow.Author.Tests.{ne-eqb}
-use lib.Dec.{T, eqb}
+use lib.Dec.{T}
 use lib.ListN.{length, replicate, length-append}
-use Rattle.tables.specs.declared.table.Table.{Table}
-use Rattle.tables.specs.Table.{choose}
+use Rattle.ground.specs.Bytes.{nameByte, bytes}
 use Rattle.answers.specs.declared.Refusal.{Refusal}
+use Rattle.answers.specs.declared.Verdict.{Verdict}
 use Rattle.models.specs.declared.model.Name.{Name}
 use Rattle.models.specs.declared.model.Model.{Model}
-use Rattle.models.specs.declared.model.Verdict.{Verdict}
 use Rattle.models.specs.declared.model.Reading.{Reading}
-use Rattle.models.specs.Bytes.{bytes}
-use Rattle.models.specs.Model.{Fence, Description, Each, nameByte, NameFormed, FenceFormed, Formed}
+use Rattle.models.specs.Model.{Fence, Description, Each, FenceFormed, Formed}
 use Rattle.models.specs.Text.{tablePart, fenceText, fencesText, headText, textOf}
-use Rattle.models.specs.Reading.{filled, held, accepting, refusing, Distinct, Told, over, departs, repeated, accepted, reading}
+use Rattle.models.specs.Reading.{held, accepting, refusing, Distinct, Told, over, departs, repeated, accepted, reading}
 use Rattle.writing.specs.Writing.{unfilled, fencesOf, described}
 use Rattle.models.proofs.NamePart.{NameBytes}
 use Rattle.models.proofs.Pushed.{packedOf, heldName}
@@ -31,7 +29,7 @@ unfolding unfilled
 unfilled-name [] zero h = refl
 unfilled-name [] (suc k) h = refl
 unfilled-name (b ∷ n) k h =
-    ap (λ (q : Bool). choose q [] (b ∷ unfilled (n ++ replicate k 0))) (ne-eqb b 0 (λ z. subst (λ (x : ℕ). T (nameByte x)) z (h .0)))
+    ap (λ (q : Bool). cond q [] (b ∷ unfilled (n ++ replicate k 0))) (ne-eqb b 0 (λ z. subst (λ (x : ℕ). T (nameByte x)) z (h .0)))
     ∙ ap (λ (l : List ℕ). b ∷ l) (unfilled-name n k (h .1))
 
 fences-again : (fs : List Fence) (names : List Name) (tables : List ℕ) → Each FenceFormed fs

@@ -6,7 +6,7 @@ use lib.ListN.{length}
 use Rattle.answers.specs.declared.Refusal.{Refusal}
 use Rattle.answers.specs.declared.Answer.{Answer}
 use Rattle.answers.specs.Written.{written, writing}
-use Rattle.models.specs.declared.model.Verdict.{Verdict}
+use Rattle.answers.specs.declared.Verdict.{Verdict}
 use Rattle.models.specs.declared.model.Reading.{Reading}
 use Rattle.models.specs.Text.{textOf}
 use Rattle.models.specs.Reading.{accepting, reading}

@@ -5,7 +5,7 @@ use mathlib.Core.List.{List}
 use lib.ListN.{length}
 use Rattle.answers.specs.declared.Answer.{Answer}
 use Rattle.answers.specs.Written.{written, writing}
-use Rattle.models.specs.declared.model.Verdict.{Verdict}
+use Rattle.answers.specs.declared.Verdict.{Verdict}
 
 -- the answer and the buffer, where writing the text follows a reading
 unfoldable pub answerAfter : Verdict → List ℕ → List ℕ → Answer

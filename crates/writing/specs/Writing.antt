@@ -2,10 +2,10 @@
 -- A model's text is written by Text's textOf.
 use Prim.Native.Nat.{ℕ, zero, suc, _+_}
 use mathlib.Core.Path.{_≡_}
+use mathlib.Core.Bool.{cond}
 use mathlib.Core.List.{List, [], _∷_, _++_}
 use lib.Dec.{eqb}
 use lib.ListN.{length, take}
-use Rattle.tables.specs.Table.{choose}
 use Rattle.models.specs.declared.model.Name.{Name}
 use Rattle.models.specs.declared.model.Model.{Model}
 use Rattle.models.specs.Model.{Fence, Description}
@@ -13,7 +13,7 @@ use Rattle.models.specs.Model.{Fence, Description}
 -- a name without the zeros that fill it up
 unfoldable pub unfilled : List ℕ → List ℕ
 unfilled [] = []
-unfilled (b ∷ l) = choose (eqb b 0) [] (b ∷ unfilled l)
+unfilled (b ∷ l) = cond (eqb b 0) [] (b ∷ unfilled l)
 
 unfoldable pub fencesOf : ℕ → List Name → List ℕ → List Fence
 fencesOf zero names tables = []

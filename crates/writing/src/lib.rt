@@ -9,9 +9,9 @@ ghost use Rattle.models.specs.Reading.{reading};
 ghost use Rattle.writing.specs.Writing.{described};
 ghost use Rattle.writing.specs.Calls.{answerAfter, bufferAfter};
 use answers::Answer;
+use answers::Verdict;
 use models::model::Model;
 use models::model::Reading;
-use models::model::Verdict;
 
 // The model's text in the buffer, or nothing where it does not fit.
 pub fn write(model: Model, out: &mut [u8]) -> Answer

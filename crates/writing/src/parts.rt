@@ -1,8 +1,8 @@
 // The parts of a model's text, put into a buffer one behind the other. Private: each asks for the room that it fills.
+ghost use Prim.Native.Nat.{_+_, _≤_, _<_};
 ghost use mathlib.Core.Path.{_≡_};
 ghost use mathlib.Core.List.{[], _∷_, _++_};
-ghost use Prim.Native.Nat.{ℕ, _+_, _≤_, _<_};
-ghost use lib.ListN.{length, take};
+ghost use lib.ListN.{length};
 ghost use Rattle.tables.specs.Table.{cell};
 ghost use Rattle.models.specs.Text.{letter, rowText, tablePart, fenceText, fencesText, headText, textOf};
 ghost use Rattle.writing.specs.Writing.{unfilled, fencesOf, described, Put};

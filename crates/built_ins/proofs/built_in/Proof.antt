@@ -1,8 +1,8 @@
 -- `built_in` meets its contract. Assumes nothing.
 use mathlib.Core.Path.{_∙_}
 use native.Mathlib.Omega.{arith}
-use Rattle.built_ins.proofs.BuiltIns.{answered, out-of-range}
 use borrow.Author.Needs.{needs}
+use Rattle.built_ins.proofs.BuiltIns.{answered, out-of-range}
 use Rattle.built_ins.proofs.built_in.Statement.{statement}
 use Rattle.built_ins.proofs.built_in.Tie as tie
 

@@ -1,12 +1,12 @@
 -- `write_built_in` meets its contract. Assumes nothing.
-use mathlib.Core.Path.{_≡_, sym, ap, ap₂, _∙_}
+use mathlib.Core.Path.{ap, _∙_}
+use borrow.Author.Needs.{needs}
 use denote.Ref.{now}
 use Rattle.models.specs.declared.model.Reading.{Reading}
 use Rattle.models.specs.Text.{textOf}
 use Rattle.writing.specs.Writing.{described}
 use Rattle.writing.specs.Calls.{answerAfter, bufferAfter}
 use Rattle.built_ins.proofs.BuiltText.{answer-built, buffer-built}
-use borrow.Author.Needs.{needs}
 use Rattle.built_ins.proofs.write_built_in.Statement.{statement}
 use Rattle.built_ins.proofs.write_built_in.Tie as tie
 

@@ -1,6 +1,6 @@
 -- `at_most` meets its contract. Assumes nothing.
-use native.Mathlib.Omega.{arith}
 use mathlib.Core.Path.{sym}
+use native.Mathlib.Omega.{arith}
 use lib.Seq.{length-take-le}
 use Rattle.cases.proofs.at_most.Statement.{statement}
 use Rattle.cases.proofs.at_most.Tie as tie

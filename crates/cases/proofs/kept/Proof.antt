@@ -1,10 +1,10 @@
 -- `kept` meets its contract. Assumes nothing.
 use Prim.Native.Nat.{_-_}
 use mathlib.Core.Path.{_≡_}
+use borrow.Author.Needs.{needs}
 use lib.ListN.{length, drop}
 use Rattle.cases.specs.Buffer.{filled}
 use Rattle.cases.proofs.Filled.{filled-on, filled-off, filled-end}
-use borrow.Author.Needs.{needs}
 use Rattle.cases.proofs.kept.Statement.{statement}
 use Rattle.cases.proofs.kept.Tie as tie
 

@@ -1,7 +1,7 @@
 -- `print_numbers` meets its contract. Assumes nothing.
 use Prim.Native.Nat.{_-_}
-use lib.ListN.{length}
 use borrow.Author.Needs.{needs}
+use lib.ListN.{length}
 use Rattle.cases.proofs.print_numbers.Statement.{statement}
 use Rattle.cases.proofs.print_numbers.Tie as tie
 

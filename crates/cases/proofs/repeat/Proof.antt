@@ -1,11 +1,11 @@
 -- `repeat` meets its contract. Assumes nothing.
 use Prim.Native.Nat.{_-_}
-use native.Mathlib.Omega.{arith}
 use mathlib.Core.Path.{_≡_, refl}
+use native.Mathlib.Omega.{arith}
+use borrow.Author.Needs.{needs}
 use lib.ListN.{length, length-set}
 use Rattle.cases.specs.Buffer.{Repeats}
 use Rattle.cases.proofs.Filled.{repeats-none, repeats-nothing, repeats-on, repeats-to-the-end, within}
-use borrow.Author.Needs.{needs}
 use Rattle.cases.proofs.repeat.Statement.{statement}
 use Rattle.cases.proofs.repeat.Tie as tie
 

@@ -1,13 +1,11 @@
 -- `compare` meets its contract. Assumes nothing.
-use mathlib.Core.Path.{_≡_, sym, ap, ap₂, _∙_}
+use mathlib.Core.Path.{sym, ap, _∙_}
+use borrow.Author.Needs.{needs}
 use denote.Ref.{now}
+use Rattle.answers.specs.declared.Verdict.{Verdict}
 use Rattle.models.specs.declared.model.Reading.{Reading}
-use Rattle.tables.specs.declared.table.Table.{Table}
-use Rattle.models.specs.declared.model.Verdict.{Verdict}
-use Rattle.comparison.specs.declared.Compared.{Compared}
 use Rattle.models.specs.Reading.{reading}
 use Rattle.comparison.specs.Comparison.{comparedBoth, comparedFirst, comparing}
-use borrow.Author.Needs.{needs}
 use Rattle.comparison.proofs.compare.Statement.{statement}
 use Rattle.comparison.proofs.compare.Tie as tie
 

@@ -1,8 +1,8 @@
 -- `compare_tables` meets its contract: each `return` by the two tests that led there. Assumes nothing.
 use mathlib.Core.Path.{refl, sym, _∙_}
 use mathlib.Core.Bool.{true, false}
-use Rattle.comparison.proofs.Words.{decided}
 use borrow.Author.Needs.{needs}
+use Rattle.comparison.proofs.Words.{decided}
 use Rattle.comparison.proofs.compare_tables.Statement.{statement}
 use Rattle.comparison.proofs.compare_tables.Tie as tie
 

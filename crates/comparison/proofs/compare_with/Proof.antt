@@ -1,10 +1,9 @@
 -- `compare_with` meets its contract. Assumes nothing.
 use mathlib.Core.Path.{sym, ap, _∙_}
-use Rattle.tables.specs.declared.table.Table.{Table}
-use Rattle.models.specs.declared.model.Verdict.{Verdict}
+use borrow.Author.Needs.{needs}
+use Rattle.answers.specs.declared.Verdict.{Verdict}
 use Rattle.comparison.specs.declared.Compared.{Compared}
 use Rattle.comparison.specs.Comparison.{comparedBoth}
-use borrow.Author.Needs.{needs}
 use Rattle.comparison.proofs.compare_with.Statement.{statement}
 use Rattle.comparison.proofs.compare_with.Tie as tie
 

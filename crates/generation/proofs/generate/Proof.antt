@@ -1,7 +1,7 @@
 -- `generate` meets its contract. Assumes nothing.
+use borrow.Author.Needs.{needs}
 use denote.Ref.{now}
 use Rattle.generation.proofs.Stages.{no-way, the-way}
-use borrow.Author.Needs.{needs}
 use Rattle.generation.proofs.generate.Statement.{statement}
 use Rattle.generation.proofs.generate.Tie as tie
 

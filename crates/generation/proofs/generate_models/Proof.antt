@@ -1,11 +1,10 @@
 -- `generate_models` meets its contract. Assumes nothing.
 use mathlib.Core.Path.{refl, sym}
-use denote.Ref.{now}
-use Rattle.runs.specs.Call.{modelOf}
+use borrow.Author.Needs.{needs}
 use lib.Seq.{length-take-le}
+use Rattle.runs.specs.Call.{modelOf}
 use Rattle.generation.specs.Generating.{blank, givenBy}
 use Rattle.generation.proofs.Stages.{small-made}
-use borrow.Author.Needs.{needs}
 use Rattle.generation.proofs.generate_models.Statement.{statement}
 use Rattle.generation.proofs.generate_models.Tie as tie
 

@@ -1,10 +1,9 @@
 -- `generate_onto` meets its contract. Assumes nothing.
+use borrow.Author.Needs.{needs}
 use denote.Ref.{now}
-use Rattle.models.specs.declared.model.Model.{Model}
 use Rattle.runs.proofs.Whole.{whole-when}
 use Rattle.generation.specs.Generating.{MachineGiven}
 use Rattle.generation.proofs.Stages.{reading-refused, reading-accepted}
-use borrow.Author.Needs.{needs}
 use Rattle.generation.proofs.generate_onto.Statement.{statement}
 use Rattle.generation.proofs.generate_onto.Tie as tie
 

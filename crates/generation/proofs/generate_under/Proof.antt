@@ -1,10 +1,10 @@
 -- `generate_under` meets its contract. Assumes nothing.
+use borrow.Author.Needs.{needs}
 use denote.Ref.{now}
 use Rattle.models.specs.declared.model.Model.{Model}
 use Rattle.runs.proofs.Whole.{whole-when}
 use Rattle.generation.specs.Generating.{GivenOnto}
 use Rattle.generation.proofs.Stages.{reading-refused, reading-accepted}
-use borrow.Author.Needs.{needs}
 use Rattle.generation.proofs.generate_under.Statement.{statement}
 use Rattle.generation.proofs.generate_under.Tie as tie
 

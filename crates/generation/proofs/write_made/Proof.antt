@@ -1,14 +1,13 @@
 -- `write_made` meets its contract. Assumes nothing.
 use mathlib.Core.Path.{refl, subst, ap, _∙_}
+use borrow.Author.Needs.{needs}
+use denote.Ref.{now}
 use lib.ListN.{length}
 use Rattle.answers.specs.Written.{written, writing}
-use denote.Ref.{now}
-use Rattle.machine.specs.declared.machine.Outcome.{Outcome}
 use Rattle.image.specs.declared.machine.Header.{Header}
 use Rattle.image.specs.Image.{imageOf}
 use Rattle.generation.specs.Generating.{SmallMade}
 use Rattle.generation.proofs.Stages.{answers-so}
-use borrow.Author.Needs.{needs}
 use Rattle.generation.proofs.write_made.Statement.{statement}
 use Rattle.generation.proofs.write_made.Tie as tie
 

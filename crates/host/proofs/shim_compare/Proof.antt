@@ -1,8 +1,8 @@
 -- `shim_compare` meets its contract. Assumes nothing.
 use mathlib.Core.Path.{ap, _∙_}
+use borrow.Author.Needs.{needs}
 use Rattle.answers.specs.Answer.{numbersOf}
 use Rattle.host.specs.Border.{numberIn, relationOf, comparedAs}
-use borrow.Author.Needs.{needs}
 use Rattle.host.proofs.shim_compare.Statement.{statement}
 use Rattle.host.proofs.shim_compare.Tie as tie
 

@@ -2,11 +2,11 @@
 use Prim.Native.Nat.{ℕ}
 use mathlib.Core.Path.{_≡_, refl, ap, _∙_}
 use mathlib.Core.List.{List}
+use borrow.Author.Needs.{needs}
 use lib.ListN.{getD}
 use Rattle.answers.specs.declared.Answer.{Answer}
 use Rattle.answers.specs.Answer.{numbersOf}
 use Rattle.host.specs.Border.{numberIn}
-use borrow.Author.Needs.{needs}
 use Rattle.host.proofs.tell.Statement.{statement}
 use Rattle.host.proofs.tell.Tie as tie
 

@@ -1,24 +1,17 @@
-use Rattle.image_runs.proofs.Steps.{step-refused, step-plain, step-fenced}
 use borrow.Author.Needs.{needs}
+use Rattle.image_runs.proofs.Steps.{step-refused, step-plain, step-fenced}
 use Rattle.image_runs.proofs.access_step.Statement.{statement}
 use Rattle.image_runs.proofs.access_step.Tie as tie
-use Rattle.image_runs.proofs.access_step.Reads as reads
-use Rattle.image_runs.proofs.access_step.Lts as lts
-use Rattle.rule.proofs.operation.byte_of.Reads as byte-of-reads
 
--- src/lib.rt:57:9
 returns : tie.Need-returns
 returns c = step-refused _ _ (c .before .pre) (c .if1 .taken)
 
--- src/lib.rt:60:9
 returns-2 : tie.Need-returns-2
 returns-2 c = step-plain _ _ (c .before .before .pre) (c .before .if1 .left) (c .if2 .taken)
 
--- src/lib.rt:62:30
 byte-of-requires : tie.Need-byte-of-requires
 byte-of-requires c κs = search needs
 
--- src/lib.rt:52:1
 returns-3 : tie.Need-returns-3
 returns-3 c = step-fenced _ _ (c .before .before .before .pre) _ (c .before .before .if1 .left) (c .before .if2 .left) (c .byte-of .ensures)
 

@@ -1,39 +1,28 @@
-use denote.Ref.{now}
 use mathlib.Core.Path.{refl}
-use Rattle.image_runs.proofs.Endings.{by-verdict}
 use borrow.Author.Needs.{needs}
+use denote.Ref.{now}
+use Rattle.image_runs.proofs.Endings.{by-verdict}
 use Rattle.image_runs.proofs.run.Statement.{statement}
 use Rattle.image_runs.proofs.run.Tie as tie
-use Rattle.image_runs.proofs.run.Reads as reads
-use Rattle.image_runs.proofs.run.Lts as lts
-use Rattle.image_runs.proofs.run_accepted.Reads as run-accepted-reads
-use Rattle.layout.proofs.verdict.examine.Reads as examine-reads
 
--- src/lib.rt:223:9
 examine-requires : tie.Need-examine-requires
 examine-requires c κs = search needs
 
--- src/lib.rt:225:26
 enum-known-verdict : tie.Need-enum-known-verdict
 enum-known-verdict c = search needs
 
--- src/lib.rt:226:65
 enum-told : tie.Need-enum-told
 enum-told c = search needs
 
--- src/lib.rt:226:30
 run-accepted-requires : tie.Need-run-accepted-requires
 run-accepted-requires c κs = search needs
 
--- src/lib.rt:219:1
 returns : tie.Need-returns
 returns c = by-verdict (now (c .before .before .before .before .before .before .before .args .image)) (c .before .before .before .before .before .before .before .args .start) (now (c .before .before .before .before .before .before .before .args .stream)) (now (c .before .before .before .before .before .before .before .args .out)) _ _ _ _ (c .before .before .before .examine .ensures) (c .before .verdict .given .1) (refl, refl)
 
--- src/lib.rt:219:1
 same-length : tie.Need-same-length
 same-length c = search needs
 
--- src/lib.rt:219:1
 returns-2 : tie.Need-returns-2
 returns-2 c = by-verdict (now (c .before .before .before .before .before .before .before .before .before .before .args .image)) (c .before .before .before .before .before .before .before .before .before .before .args .start) (now (c .before .before .before .before .before .before .before .before .before .before .args .stream)) (now (c .before .before .before .before .before .before .before .before .before .before .args .out)) _ _ _ _ (c .before .before .before .before .before .before .examine .ensures) (c .before .before .before .before .enum-told .given .1) (c .before .before .run-accepted .ensures)
 

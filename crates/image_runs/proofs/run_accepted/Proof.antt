@@ -1,34 +1,24 @@
+use borrow.Author.Needs.{needs}
 use denote.Ref.{now}
 use Rattle.image_runs.proofs.Endings.{out-of-range, over-limit, in-range}
-use borrow.Author.Needs.{needs}
 use Rattle.image_runs.proofs.run_accepted.Statement.{statement}
 use Rattle.image_runs.proofs.run_accepted.Tie as tie
-use Rattle.image_runs.proofs.run_accepted.Reads as reads
-use Rattle.image_runs.proofs.run_accepted.Lts as lts
-use Rattle.image_runs.proofs.run_from.Reads as run-from-reads
-use Rattle.layout.proofs.verdict.number_at.Reads as number-at-reads
 
--- src/lib.rt:208:9
 number-at-requires : tie.Need-number-at-requires
 number-at-requires c κs = search needs
 
--- src/lib.rt:210:9
 returns : tie.Need-returns
 returns c = out-of-range (now (c .before .before .before .before .before .args .image)) (c .before .before .before .before .before .args .start) (now (c .before .before .before .before .before .args .stream)) (now (c .before .before .before .before .before .args .out)) _ (c .before .number-at .ensures .0) (c .if1 .taken)
 
--- src/lib.rt:213:9
 returns-2 : tie.Need-returns-2
 returns-2 c = over-limit (now (c .before .before .before .before .before .before .args .image)) (c .before .before .before .before .before .before .args .start) (now (c .before .before .before .before .before .before .args .stream)) (now (c .before .before .before .before .before .before .args .out)) _ (c .before .before .number-at .ensures .0) (c .before .if1 .left) (c .if2 .taken)
 
--- src/lib.rt:215:5
 run-from-requires : tie.Need-run-from-requires
 run-from-requires c κs = search needs
 
--- src/lib.rt:204:1
 same-length : tie.Need-same-length
 same-length c = search needs
 
--- src/lib.rt:204:1
 returns-3 : tie.Need-returns-3
 returns-3 c = in-range (now (c .before .before .before .before .before .before .before .before .before .before .args .image)) (c .before .before .before .before .before .before .before .before .before .before .args .start) (now (c .before .before .before .before .before .before .before .before .before .before .args .stream)) (now (c .before .before .before .before .before .before .before .before .before .before .args .out)) _ _ _ (c .before .before .before .before .before .before .number-at .ensures .0) (c .before .before .before .before .before .if1 .left) (c .before .before .before .before .if2 .left) (c .before .before .run-from .ensures)
 

@@ -1,57 +1,41 @@
-use denote.Ref.{now}
 use mathlib.Core.Path.{sym}
+use borrow.Author.Needs.{needs}
+use denote.Ref.{now}
 use lib.Seq.{length-take-le}
 use Rattle.image_runs.proofs.Endings.{run-refused, run-fits, run-given}
-use borrow.Author.Needs.{needs}
 use Rattle.image_runs.proofs.run_from.Statement.{statement}
 use Rattle.image_runs.proofs.run_from.Tie as tie
-use Rattle.image_runs.proofs.run_from.Reads as reads
-use Rattle.image_runs.proofs.run_from.Lts as lts
-use Rattle.answers.proofs.write_out.Reads as write-out-reads
-use Rattle.image_runs.proofs.refusal.Reads as refusal-reads
-use Rattle.image_runs.proofs.run_all.Reads as run-all-reads
 
--- src/lib.rt:193:48
 slice-aggregate-run-all : tie.Need-slice-aggregate-run-all
 slice-aggregate-run-all c = search needs
 
--- src/lib.rt:193:9
 run-all-requires : tie.Need-run-all-requires
 run-all-requires c κs = search needs
 
--- src/lib.rt:195:25
 enum-known-ending : tie.Need-enum-known-ending
 enum-known-ending c = search needs
 
--- src/lib.rt:195:52
 refusal-requires : tie.Need-refusal-requires
 refusal-requires c κs = search needs
 
--- src/lib.rt:196:23
 enum-known-ending-2 : tie.Need-enum-known-ending-2
 enum-known-ending-2 c = search needs
 
--- src/lib.rt:198:32
 array-share-prefix-room : tie.Need-array-share-prefix-room
 array-share-prefix-room c = run-fits _ _ _ (c .before .before .before .before .run-all .ensures) _ (c .before .ending2 .given .1)
 
--- src/lib.rt:198:32
 slice-aggregate-write-out : tie.Need-slice-aggregate-write-out
 slice-aggregate-write-out c = sym (length-take-le _ _ (run-fits _ _ _ (c .before .before .before .before .before .run-all .ensures) _ (c .before .before .ending2 .given .1)))
 
--- src/lib.rt:198:13
 write-out-requires : tie.Need-write-out-requires
 write-out-requires c κs = search needs
 
--- src/lib.rt:187:1
 returns : tie.Need-returns
 returns c = run-refused _ _ _ (c .before .before .before .before .before .run-all .ensures) _ _ _ (now (c .before .before .before .before .before .before .before .before .before .before .args .out)) (c .before .before .ending .given .1) (c .refusal .ensures)
 
--- src/lib.rt:187:1
 same-length : tie.Need-same-length
 same-length c = search needs
 
--- src/lib.rt:187:1
 returns-2 : tie.Need-returns-2
 returns-2 c = run-given _ _ _ (c .before .before .before .before .before .before .before .before .before .run-all .ensures) _ (now (c .before .before .before .before .before .before .before .before .before .before .before .before .before .before .args .out)) _ _ (c .before .before .before .before .before .before .ending2 .given .1) (c .before .before .write-out .ensures)
 

@@ -1,34 +1,24 @@
 use mathlib.Core.Path.{refl}
-use Rattle.image_runs.proofs.Steps.{step-byte}
 use borrow.Author.Needs.{needs}
+use Rattle.image_runs.proofs.Steps.{step-byte}
 use Rattle.image_runs.proofs.take_byte.Statement.{statement}
 use Rattle.image_runs.proofs.take_byte.Tie as tie
-use Rattle.image_runs.proofs.take_byte.Reads as reads
-use Rattle.image_runs.proofs.take_byte.Lts as lts
-use Rattle.image_runs.proofs.take.Reads as take-reads
-use Rattle.rule.proofs.operation.read_byte.Reads as read-byte-reads
 
--- src/lib.rt:100:9
 read-byte-requires : tie.Need-read-byte-requires
 read-byte-requires c κs = search needs
 
--- src/lib.rt:102:18
 enum-known-read : tie.Need-enum-known-read
 enum-known-read c = search needs
 
--- src/lib.rt:102:32
 take-requires : tie.Need-take-requires
 take-requires c κs = search needs
 
--- src/lib.rt:103:40
 enum-told : tie.Need-enum-told
 enum-told c = search needs
 
--- src/lib.rt:96:1
 returns : tie.Need-returns
 returns c = step-byte _ _ _ _ _ _ (c .before .before .before .before .read-byte .ensures) (c .before .before .read .given .1) (c .take .ensures)
 
--- src/lib.rt:96:1
 returns-2 : tie.Need-returns-2
 returns-2 c = step-byte _ _ _ _ _ _ (c .before .before .read-byte .ensures) (c .enum-told .given .1) (refl, tt)
 

@@ -1,42 +1,30 @@
+use borrow.Author.Needs.{needs}
 use denote.Ref.{now}
 use Rattle.image_runs.proofs.Steps.{step-no-fence, step-passed}
-use borrow.Author.Needs.{needs}
 use Rattle.image_runs.proofs.take_fence.Statement.{statement}
 use Rattle.image_runs.proofs.take_fence.Tie as tie
-use Rattle.image_runs.proofs.take_fence.Reads as reads
-use Rattle.image_runs.proofs.take_fence.Lts as lts
-use Rattle.layout.proofs.places.entry_start.Reads as entry-start-reads
-use Rattle.layout.proofs.verdict.number_at.Reads as number-at-reads
 
--- src/lib.rt:78:8
 number-at-requires : tie.Need-number-at-requires
 number-at-requires c κs = search needs
 
--- src/lib.rt:79:9
 returns : tie.Need-returns
 returns c = let a = c .before .before .before .args in step-no-fence (now (a .image)) (a .state) _ _ (c .before .number-at .ensures .0) (c .if1 .taken)
 
--- src/lib.rt:81:62
 cast-entry-start : tie.Need-cast-entry-start
 cast-entry-start c = search needs
 
--- src/lib.rt:81:42
 entry-start-requires : tie.Need-entry-start-requires
 entry-start-requires c κs = search needs
 
--- src/lib.rt:81:78
 add-number-at : tie.Need-add-number-at
 add-number-at c = search needs
 
--- src/lib.rt:81:42
 add-number-at-2 : tie.Need-add-number-at-2
 add-number-at-2 c = search needs
 
--- src/lib.rt:81:9
 number-at-requires-2 : tie.Need-number-at-requires-2
 number-at-requires-2 c κs = search needs
 
--- src/lib.rt:74:1
 returns-2 : tie.Need-returns-2
 returns-2 c = let a = c .before .before .before .before .before .args in step-passed (now (a .image)) (a .state) _ _ (c .before .before .before .number-at .ensures .0) _ _ (c .before .before .if1 .left) (c .before .entry-start .ensures .0) (c .number-at2 .ensures .0) (c .number-at2 .ensures .1)
 

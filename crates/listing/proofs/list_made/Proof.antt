@@ -2,14 +2,14 @@
 use Prim.Native.Nat.{ℕ}
 use mathlib.Core.Path.{_≡_, refl, sym, ap, subst}
 use mathlib.Core.List.{List}
+use borrow.Author.Needs.{needs}
 use denote.Ref.{now}
 use Rattle.answers.specs.declared.Answer.{Answer}
+use Rattle.answers.proofs.Given.{Answered, answered-same}
 use Rattle.rule.specs.declared.way.Way.{Way}
 use Rattle.models.specs.declared.model.Name.{Name}
 use Rattle.machine.specs.declared.machine.Outcome.{Outcome}
-use Rattle.answers.proofs.Given.{Answered, answered-same}
 use Rattle.listing.specs.Making.{madeGiven, MadeListable}
-use borrow.Author.Needs.{needs}
 use Rattle.listing.proofs.list_made.Statement.{statement}
 use Rattle.listing.proofs.list_made.Tie as tie
 

@@ -1,12 +1,12 @@
 -- `list_models` meets its contract. Assumes nothing.
 use Prim.Native.Nat.{ℕ}
 use mathlib.Core.Path.{sym}
+use borrow.Author.Needs.{needs}
 use denote.Ref.{now}
 use lib.ListN.{replicate, length-replicate}
 use lib.Seq.{length-take-le}
 use Rattle.listing.specs.Making.{madeGiven}
 use Rattle.listing.proofs.Made.{made-listable, made-listed}
-use borrow.Author.Needs.{needs}
 use Rattle.listing.proofs.list_models.Statement.{statement}
 use Rattle.listing.proofs.list_models.Tie as tie
 

@@ -1,13 +1,13 @@
 -- `list_parts` meets its contract: what the run answers is what the direct run gives. Assumes nothing.
 use Prim.Native.Nat.{ℕ}
 use mathlib.Core.Path.{refl, sym}
+use borrow.Author.Needs.{needs}
 use denote.Ref.{now}
 use lib.ListN.{replicate, length-replicate}
 use lib.Seq.{length-take-le}
 use Rattle.answers.specs.Given.{refuses}
 use Rattle.listing.specs.Listed.{halts, runs}
 use Rattle.listing.proofs.Direct.{both-accepted, call-refused, call-taken}
-use borrow.Author.Needs.{needs}
 use Rattle.listing.proofs.list_parts.Statement.{statement}
 use Rattle.listing.proofs.list_parts.Tie as tie
 

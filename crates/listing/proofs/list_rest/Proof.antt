@@ -1,11 +1,11 @@
 -- `list_rest` meets its contract. Assumes nothing.
 use mathlib.Core.Path.{sym, ap, subst}
+use borrow.Author.Needs.{needs}
 use denote.Ref.{now}
 use lib.Seq.{length-take-le}
 use Rattle.listing.specs.Shape.{withTarget}
 use Rattle.listing.specs.Finding.{TextEnd}
 use Rattle.listing.proofs.Stages.{shape-as, shape-none, target-found}
-use borrow.Author.Needs.{needs}
 use Rattle.listing.proofs.list_rest.Statement.{statement}
 use Rattle.listing.proofs.list_rest.Tie as tie
 

@@ -1,11 +1,11 @@
 -- `list_run` meets its contract. Assumes nothing.
 use mathlib.Core.Path.{subst₂}
+use borrow.Author.Needs.{needs}
 use denote.Ref.{now}
-use Rattle.models.specs.declared.model.Reading.{Reading}
 use Rattle.answers.specs.Given.{Answers}
+use Rattle.models.specs.declared.model.Reading.{Reading}
 use Rattle.listing.specs.Listed.{MachineListed}
 use Rattle.listing.proofs.Made.{sixteen-read}
-use borrow.Author.Needs.{needs}
 use Rattle.listing.proofs.list_run.Statement.{statement}
 use Rattle.listing.proofs.list_run.Tie as tie
 

@@ -1,7 +1,7 @@
 -- `show_cases` is safe and ends. Assumes nothing.
 use Prim.Native.Nat.{_-_}
-use lib.ListN.{length}
 use borrow.Author.Needs.{needs}
+use lib.ListN.{length}
 use Rattle.listing_cases.proofs.show_cases.Statement.{statement}
 use Rattle.listing_cases.proofs.show_cases.Tie as tie
 

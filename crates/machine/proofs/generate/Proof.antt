@@ -1,6 +1,6 @@
 use Prim.Native.Nat.{ℕ}
-use native.Mathlib.Omega.{arith}
 use mathlib.Core.Path.{refl, _∙_}
+use native.Mathlib.Omega.{arith}
 use borrow.Author.Needs.{needs}
 use denote.Ref.{now}
 use lib.ListN.{length-replicate}
@@ -10,13 +10,6 @@ use Rattle.machine.proofs.Finish.{few-situations, begun, crowd-states, 
 use Rattle.machine.proofs.Zeros.{at-most-sixteen, zeros-blank}
 use Rattle.machine.proofs.generate.Statement.{statement}
 use Rattle.machine.proofs.generate.Tie as tie
-use Rattle.machine.proofs.generate.Reads as reads
-use Rattle.machine.proofs.generate.Lts as lts
-use Rattle.machine.proofs.explore.explore.Reads as explore-reads
-use Rattle.machine.proofs.named.Reads as named-reads
-use Rattle.machine.proofs.refine.refine.Reads as refine-reads
-use Rattle.machine.proofs.rows.write_rows.Reads as write-rows-reads
-use Rattle.rule.proofs.way.way_number.Reads as way-number-reads
 
 named-requires : tie.Need-named-requires
 named-requires c κs = search needs

@@ -1,12 +1,10 @@
-use native.Mathlib.Omega.{arith}
 use mathlib.Core.Path.{sym}
+use native.Mathlib.Omega.{arith}
 use borrow.Author.Needs.{needs}
 use lib.Seq.{take-all}
 use lib.ListN.{length-take}
 use Rattle.machine.proofs.named.Statement.{statement}
 use Rattle.machine.proofs.named.Tie as tie
-use Rattle.machine.proofs.named.Reads as reads
-use Rattle.machine.proofs.named.Lts as lts
 
 returns : tie.Need-returns
 returns c = sym (take-all 16 _ (omega arith))

@@ -1,6 +1,6 @@
 -- `built_in_row` is safe and ends. Assumes nothing.
-use borrow.Author.Needs.{needs}
 use Prim.Native.Nat.{_-_}
+use borrow.Author.Needs.{needs}
 use Rattle.machine_cases.proofs.built_in_row.Statement.{statement}
 use Rattle.machine_cases.proofs.built_in_row.Tie as tie
 

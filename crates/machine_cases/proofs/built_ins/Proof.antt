@@ -1,6 +1,6 @@
 -- `built_ins` is safe and ends. Assumes nothing.
-use borrow.Author.Needs.{needs}
 use Prim.Native.Nat.{_-_}
+use borrow.Author.Needs.{needs}
 use Rattle.machine_cases.proofs.built_ins.Statement.{statement}
 use Rattle.machine_cases.proofs.built_ins.Tie as tie
 

@@ -1,8 +1,8 @@
 -- `front` is safe and ends. Assumes nothing.
 use mathlib.Core.Path.{sym}
 use native.Mathlib.Omega.{arith}
-use lib.Seq.{length-take-le}
 use borrow.Author.Needs.{needs}
+use lib.Seq.{length-take-le}
 use Rattle.machine_cases.proofs.front.Statement.{statement}
 use Rattle.machine_cases.proofs.front.Tie as tie
 

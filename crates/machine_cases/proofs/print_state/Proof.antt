@@ -1,6 +1,6 @@
 -- `print_state` is safe and ends. Assumes nothing.
-use borrow.Author.Needs.{needs}
 use Prim.Native.Nat.{_-_}
+use borrow.Author.Needs.{needs}
 use Rattle.machine_cases.proofs.print_state.Statement.{statement}
 use Rattle.machine_cases.proofs.print_state.Tie as tie
 

@@ -1,6 +1,6 @@
 -- `print_states` is safe and ends. Assumes nothing.
-use borrow.Author.Needs.{needs}
 use Prim.Native.Nat.{_-_}
+use borrow.Author.Needs.{needs}
 use Rattle.machine_cases.proofs.print_states.Statement.{statement}
 use Rattle.machine_cases.proofs.print_states.Tie as tie
 

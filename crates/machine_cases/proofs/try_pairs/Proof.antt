@@ -1,7 +1,7 @@
 -- `try_pairs` is safe and ends. Assumes nothing.
 use Prim.Native.Nat.{_-_}
-use lib.ListN.{length}
 use borrow.Author.Needs.{needs}
+use lib.ListN.{length}
 use Rattle.machine_cases.proofs.try_pairs.Statement.{statement}
 use Rattle.machine_cases.proofs.try_pairs.Tie as tie
 

@@ -1,7 +1,6 @@
 -- `compare_row` is safe and ends. Assumes nothing.
+use Prim.Native.Nat.{_-_}
 use borrow.Author.Needs.{needs}
-use Prim.Native.Nat.{ℕ, _-_, _≤_}
-use native.Mathlib.Omega.{arith}
 use Rattle.model_calls.proofs.compare_row.Statement.{statement}
 use Rattle.model_calls.proofs.compare_row.Tie as tie
 

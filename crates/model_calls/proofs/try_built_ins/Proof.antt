@@ -1,7 +1,6 @@
 -- `try_built_ins` is safe and ends. Assumes nothing.
+use Prim.Native.Nat.{_-_}
 use borrow.Author.Needs.{needs}
-use Prim.Native.Nat.{ℕ, _-_, _≤_}
-use native.Mathlib.Omega.{arith}
 use Rattle.model_calls.proofs.try_built_ins.Statement.{statement}
 use Rattle.model_calls.proofs.try_built_ins.Tie as tie
 

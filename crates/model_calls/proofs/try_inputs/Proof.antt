@@ -1,7 +1,7 @@
 -- `try_inputs` is safe and ends. Assumes nothing.
 use Prim.Native.Nat.{_-_}
-use lib.ListN.{length}
 use borrow.Author.Needs.{needs}
+use lib.ListN.{length}
 use Rattle.model_calls.proofs.try_inputs.Statement.{statement}
 use Rattle.model_calls.proofs.try_inputs.Tie as tie
 

@@ -1,6 +1,6 @@
 -- `try_text` is safe and ends. Assumes nothing.
-use lib.Seq.{length-front}
 use borrow.Author.Needs.{needs}
+use lib.Seq.{length-front}
 use Rattle.model_calls.proofs.try_text.Statement.{statement}
 use Rattle.model_calls.proofs.try_text.Tie as tie
 

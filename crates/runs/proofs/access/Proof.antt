@@ -1,7 +1,7 @@
 -- `access` meets its contract: each step is a move. Assumes nothing.
 use mathlib.Core.Path.{sym, ap, _∙_}
-use Rattle.runs.specs.Moves.{movedBy}
 use borrow.Author.Needs.{needs}
+use Rattle.runs.specs.Moves.{movedBy}
 use Rattle.runs.proofs.access.Statement.{statement}
 use Rattle.runs.proofs.access.Tie as tie
 

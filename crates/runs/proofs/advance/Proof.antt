@@ -1,23 +1,22 @@
 -- `advance` meets its contract: what the byte is says what it does. Assumes nothing.
 use Prim.Native.Nat.{ℕ}
 use mathlib.Core.Path.{_≡_, refl, sym, ap, _∙_}
-use mathlib.Core.Bool.{Bool, true, false}
+use mathlib.Core.Bool.{Bool, true, false, cond}
+use borrow.Author.Needs.{needs}
 use denote.Ref.{now}
 use lib.Dec.{ltb}
 use lib.ListN.{length}
-use Rattle.tables.specs.Table.{choose}
 use Rattle.answers.specs.declared.Refusal.{Refusal}
-use Rattle.rule.specs.declared.operation.Operation.{Operation}
-use Rattle.rule.specs.declared.operation.Byte.{Byte}
+use Rattle.operations.specs.declared.Operation.{Operation}
+use Rattle.operations.specs.declared.Byte.{Byte}
+use Rattle.operations.specs.Operation.{byteIs}
 use Rattle.rule.specs.declared.situation.Situation.{Situation}
 use Rattle.rule.specs.declared.way.Way.{Way}
-use Rattle.rule.specs.Operation.{byteIs}
 use Rattle.rule.specs.Pairs.{Model, fenceTable}
 use Rattle.rule.specs.Situation.{asks}
 use Rattle.runs.specs.declared.Move.{Move}
 use Rattle.runs.specs.Bytes.{judgedAs, good, bad}
 use Rattle.runs.specs.Moves.{moved, movedAs, asked, side}
-use borrow.Author.Needs.{needs}
 use Rattle.runs.proofs.advance.Statement.{statement}
 use Rattle.runs.proofs.advance.Tie as tie
 
@@ -52,8 +51,8 @@ fence-asks : (way : Way) (up target : Model) (s : Situation) (at f : ℕ)
     → movedAs way up target s at (judgedAs (length (up .fences)) at (Byte.Is (Operation.Fence f))) ≡ asked (up .fences) s at f
 fence-asks way up target s at f = tested (ltb f (length (up .fences)))
   where
-    tested : (t : Bool) → movedAs way up target s at (choose t (good (Operation.Fence f)) (bad (Refusal.NoSuchFence at)))
-        ≡ choose t (Move.Silent (asks (fenceTable up f) s)) (Move.Refused (Refusal.NoSuchFence at))
+    tested : (t : Bool) → movedAs way up target s at (cond t (good (Operation.Fence f)) (bad (Refusal.NoSuchFence at)))
+        ≡ cond t (Move.Silent (asks (fenceTable up f) s)) (Move.Refused (Refusal.NoSuchFence at))
     tested true = refl
     tested false = refl
 

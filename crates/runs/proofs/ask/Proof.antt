@@ -1,10 +1,10 @@
 -- `ask` meets its contract. Assumes nothing.
 use mathlib.Core.Path.{sym, ap, _∙_}
 use borrow.Author.Tests.{lt-ltb, le-ltb}
+use borrow.Author.Needs.{needs}
 use Rattle.tables.specs.declared.table.Table.{Table}
 use Rattle.rule.specs.Situation.{asks}
 use Rattle.runs.specs.declared.Move.{Move}
-use borrow.Author.Needs.{needs}
 use Rattle.runs.proofs.ask.Statement.{statement}
 use Rattle.runs.proofs.ask.Tie as tie
 

@@ -1,6 +1,7 @@
 -- `finish` meets its contract. Assumes nothing.
 use Prim.Native.Nat.{ℕ}
 use mathlib.Core.Path.{sym, ap, subst, _∙_}
+use borrow.Author.Needs.{needs}
 use denote.Ref.{now}
 use lib.ListN.{length, take}
 use lib.Seq.{length-take-le}
@@ -8,7 +9,6 @@ use Rattle.answers.specs.Written.{writing}
 use Rattle.runs.specs.declared.Ended.{Ended}
 use Rattle.runs.specs.Call.{answerOf, bufferOf}
 use Rattle.runs.specs.Moves.{given, Fits}
-use borrow.Author.Needs.{needs}
 use Rattle.runs.proofs.finish.Statement.{statement}
 use Rattle.runs.proofs.finish.Tie as tie
 

@@ -1,11 +1,11 @@
 -- `lay` meets its contract: each move says what is laid. Assumes nothing.
 use Prim.Native.Nat.{ℕ, _+_}
 use mathlib.Core.Path.{sym, ap, _∙_}
+use borrow.Author.Needs.{needs}
 use denote.Ref.{now}
 use lib.ListN.{set}
 use Rattle.runs.specs.declared.Move.{Move}
 use Rattle.runs.specs.Moves.{turned, laid}
-use borrow.Author.Needs.{needs}
 use Rattle.runs.proofs.lay.Statement.{statement}
 use Rattle.runs.proofs.lay.Tie as tie
 

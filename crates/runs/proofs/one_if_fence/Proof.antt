@@ -1,9 +1,9 @@
 -- `one_if_fence` meets its contract. Assumes nothing.
 use mathlib.Core.Path.{sym, ap, _∙_}
 use native.Mathlib.Omega.{arith}
-use Rattle.rule.specs.declared.operation.Byte.{Byte}
-use Rattle.runs.specs.Bytes.{isFence}
 use borrow.Author.Needs.{needs}
+use Rattle.operations.specs.declared.Byte.{Byte}
+use Rattle.runs.specs.Bytes.{isFence}
 use Rattle.runs.proofs.one_if_fence.Statement.{statement}
 use Rattle.runs.proofs.one_if_fence.Tie as tie
 

@@ -1,11 +1,11 @@
 -- `run` meets its contract. Assumes nothing.
 use mathlib.Core.Path.{refl, sym, ap, _∙_}
+use borrow.Author.Needs.{needs}
 use denote.Ref.{now}
 use Rattle.rule.specs.declared.way.Way.{Way}
 use Rattle.runs.specs.declared.WayRead.{WayRead}
 use Rattle.runs.specs.Call.{onWay, under, outcome}
 use Rattle.runs.proofs.Staged.{answers-as}
-use borrow.Author.Needs.{needs}
 use Rattle.runs.proofs.run.Statement.{statement}
 use Rattle.runs.proofs.run.Tie as tie
 

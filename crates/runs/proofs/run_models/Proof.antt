@@ -3,13 +3,13 @@ use Prim.Native.Nat.{ℕ, _≤_, _<_}
 use mathlib.Core.Path.{_≡_, sym, ap, _∙_}
 use mathlib.Core.List.{List}
 use borrow.Author.Tests.{lt-ltb, le-ltb}
+use borrow.Author.Needs.{needs}
 use denote.Ref.{now}
 use lib.ListN.{length}
 use lib.Seq.{length-take-le}
 use Rattle.answers.specs.declared.Refusal.{Refusal}
 use Rattle.runs.specs.Bytes.{Outcome, refuse, direct}
 use Rattle.runs.specs.Call.{modelOf, onStream, answerOf, bufferOf}
-use borrow.Author.Needs.{needs}
 use Rattle.runs.proofs.run_models.Statement.{statement}
 use Rattle.runs.proofs.run_models.Tie as tie
 

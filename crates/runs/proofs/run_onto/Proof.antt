@@ -1,12 +1,12 @@
 -- `run_onto` meets its contract. Assumes nothing.
 use mathlib.Core.Path.{refl}
+use borrow.Author.Needs.{needs}
 use denote.Ref.{now}
 use Rattle.rule.specs.Pairs.{Model}
 use Rattle.runs.specs.Bytes.{direct}
 use Rattle.runs.specs.Call.{modelOf, onStream, onto}
 use Rattle.runs.proofs.Staged.{answers-as, reading-refused, reading-accepted}
 use Rattle.runs.proofs.Whole.{whole-when}
-use borrow.Author.Needs.{needs}
 use Rattle.runs.proofs.run_onto.Statement.{statement}
 use Rattle.runs.proofs.run_onto.Tie as tie
 

@@ -1,9 +1,9 @@
 -- `run_stream` meets its contract: at each turn what is laid and what is left to run are the whole run. Assumes nothing.
-use borrow.Author.Needs.{needs}
+use Prim.Native.Nat.{ℕ, _-_}
 use mathlib.Core.Path.{sym, _∙_}
 use mathlib.Core.List.{List}
-use Prim.Native.Nat.{ℕ, _-_}
 use native.Mathlib.Omega.{arith}
+use borrow.Author.Needs.{needs}
 use denote.Ref.{now}
 use lib.ListN.{length}
 use Rattle.rule.specs.declared.situation.Situation.{Situation}

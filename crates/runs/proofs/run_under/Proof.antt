@@ -1,11 +1,11 @@
 -- `run_under` meets its contract. Assumes nothing.
 use mathlib.Core.Path.{refl}
+use borrow.Author.Needs.{needs}
 use denote.Ref.{now}
 use Rattle.rule.specs.Pairs.{Model}
 use Rattle.runs.specs.Call.{onto, under}
 use Rattle.runs.proofs.Staged.{answers-as, reading-refused, reading-accepted}
 use Rattle.runs.proofs.Whole.{whole-when}
-use borrow.Author.Needs.{needs}
 use Rattle.runs.proofs.run_under.Statement.{statement}
 use Rattle.runs.proofs.run_under.Tie as tie
 

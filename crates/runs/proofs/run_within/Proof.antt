@@ -1,12 +1,12 @@
 -- `run_within` meets its contract: the run by moves is the direct run. Assumes nothing.
 use mathlib.Core.Path.{sym, ap, _∙_}
+use borrow.Author.Needs.{needs}
 use denote.Ref.{now}
 use lib.ListN.{length}
 use Rattle.runs.specs.Bytes.{Outcome}
 use Rattle.runs.specs.Call.{answerOf, bufferOf}
 use Rattle.runs.specs.Moves.{side}
 use Rattle.runs.proofs.ByMoves.{direct-moves}
-use borrow.Author.Needs.{needs}
 use Rattle.runs.proofs.run_within.Statement.{statement}
 use Rattle.runs.proofs.run_within.Tie as tie
 

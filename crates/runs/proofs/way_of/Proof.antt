@@ -1,6 +1,6 @@
 -- `way_of` meets its contract. Assumes nothing.
-use mathlib.Core.Path.{_≡_, sym, ap}
 use Prim.Native.Nat.{ℕ}
+use mathlib.Core.Path.{_≡_, sym, ap}
 use borrow.Author.Tests.{ne-eqb}
 use Rattle.runs.specs.declared.WayRead.{WayRead}
 use Rattle.runs.specs.Call.{wayOf}

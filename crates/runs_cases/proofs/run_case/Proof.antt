@@ -1,6 +1,6 @@
 -- `run_case` is safe and ends. Assumes nothing.
-use lib.Seq.{length-front}
 use borrow.Author.Needs.{needs}
+use lib.Seq.{length-front}
 use Rattle.runs_cases.proofs.run_case.Statement.{statement}
 use Rattle.runs_cases.proofs.run_case.Tie as tie
 

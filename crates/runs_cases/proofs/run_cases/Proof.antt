@@ -1,7 +1,7 @@
 -- `run_cases` is safe and ends. Assumes nothing.
 use Prim.Native.Nat.{_-_}
-use lib.ListN.{length}
 use borrow.Author.Needs.{needs}
+use lib.ListN.{length}
 use Rattle.runs_cases.proofs.run_cases.Statement.{statement}
 use Rattle.runs_cases.proofs.run_cases.Tie as tie
 

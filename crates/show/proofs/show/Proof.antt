@@ -2,6 +2,7 @@
 use Prim.Native.Nat.{ℕ, _≤_}
 use mathlib.Core.Path.{_≡_, sym, ap, subst, _∙_}
 use mathlib.Core.List.{List}
+use borrow.Author.Needs.{needs}
 use denote.Ref.{now}
 use lib.ListN.{replicate, length-replicate}
 use lib.Seq.{length-take-le}
@@ -10,7 +11,6 @@ use Rattle.answers.specs.Given.{answerOf, Answers}
 use Rattle.listing.specs.Listed.{Listed}
 use Rattle.listing.proofs.Fits.{listing-within}
 use Rattle.show.specs.Shown.{Shown}
-use borrow.Author.Needs.{needs}
 use Rattle.show.proofs.show.Statement.{statement}
 use Rattle.show.proofs.show.Tie as tie
 

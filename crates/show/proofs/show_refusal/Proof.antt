@@ -1,10 +1,10 @@
 -- `show_refusal` meets its contract: what is written is within the buffer. Assumes nothing of its own.
 use Prim.Native.Nat.{ℕ, _≤_}
 use mathlib.Core.Path.{sym, subst, _∙_}
+use borrow.Author.Needs.{needs}
 use lib.Seq.{length-take-le}
 use Rattle.listing.specs.Printed.{refusalLine}
 use Rattle.listing.proofs.Fits.{writing-within}
-use borrow.Author.Needs.{needs}
 use Rattle.show.proofs.show_refusal.Statement.{statement}
 use Rattle.show.proofs.show_refusal.Tie as tie
 

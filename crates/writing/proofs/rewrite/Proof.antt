@@ -1,12 +1,12 @@
 -- `rewrite` meets its contract. Assumes nothing.
-use mathlib.Core.Path.{_≡_, sym, ap, ap₂, _∙_}
+use mathlib.Core.Path.{ap, _∙_}
+use borrow.Author.Needs.{needs}
 use denote.Ref.{now}
 use Rattle.models.specs.declared.model.Reading.{Reading}
 use Rattle.models.specs.Text.{textOf}
 use Rattle.writing.specs.Writing.{described}
 use Rattle.writing.specs.Calls.{answerAfter, bufferAfter}
 use Rattle.writing.proofs.WrittenBack.{answer-back, buffer-back}
-use borrow.Author.Needs.{needs}
 use Rattle.writing.proofs.rewrite.Statement.{statement}
 use Rattle.writing.proofs.rewrite.Tie as tie
 

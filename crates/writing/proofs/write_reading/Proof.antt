@@ -1,9 +1,9 @@
 -- `write_reading` meets its contract. Assumes nothing.
+use borrow.Author.Needs.{needs}
 use denote.Ref.{now}
 use Rattle.models.specs.Text.{textOf}
 use Rattle.writing.specs.Writing.{described}
 use Rattle.writing.proofs.WrittenBack.{after-refused, after-accepted}
-use borrow.Author.Needs.{needs}
 use Rattle.writing.proofs.write_reading.Statement.{statement}
 use Rattle.writing.proofs.write_reading.Tie as tie
 

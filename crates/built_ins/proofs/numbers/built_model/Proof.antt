@@ -1,10 +1,10 @@
 -- `built_model` meets its contract: it is the row of the table. Assumes nothing.
 use mathlib.Core.Path.{ap, _∙_}
+use borrow.Author.Needs.{needs}
 use Rattle.models.specs.declared.model.Name.{Name}
 use Rattle.models.specs.Reading.{bare}
 use Rattle.built_ins.specs.Numbers.{number, modelNumbers}
 use Rattle.built_ins.proofs.BuiltIns.{row-filled}
-use borrow.Author.Needs.{needs}
 use Rattle.built_ins.proofs.numbers.built_model.Statement.{statement}
 use Rattle.built_ins.proofs.numbers.built_model.Tie as tie
 

@@ -1,11 +1,11 @@
 -- `built_name` meets its contract. Assumes nothing.
-use mathlib.Core.Path.{_∙_}
 use Prim.Native.Nat.{_%_}
+use mathlib.Core.Path.{_∙_}
 use native.Mathlib.Nat.{mod-lt}
 use native.Mathlib.Omega.{arith}
+use borrow.Author.Needs.{needs}
 use Rattle.built_ins.specs.Numbers.{nameBytes}
 use Rattle.built_ins.proofs.BuiltIns.{name-at}
-use borrow.Author.Needs.{needs}
 use Rattle.built_ins.proofs.numbers.built_name.Statement.{statement}
 use Rattle.built_ins.proofs.numbers.built_name.Tie as tie
 

@@ -1,6 +1,6 @@
 -- `header_of` meets its contract. Assumes nothing.
-use Rattle.image.proofs.WrittenBack.{header-told}
 use borrow.Author.Needs.{needs}
+use Rattle.image.proofs.WrittenBack.{header-told}
 use Rattle.image.proofs.calls.header_of.Statement.{statement}
 use Rattle.image.proofs.calls.header_of.Tie as tie
 

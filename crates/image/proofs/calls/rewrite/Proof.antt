@@ -1,8 +1,8 @@
 -- `rewrite` meets its contract. Assumes nothing.
 use mathlib.Core.Path.{ap, _∙_}
+use borrow.Author.Needs.{needs}
 use denote.Ref.{now}
 use Rattle.image.specs.Calls.{headerAs}
-use borrow.Author.Needs.{needs}
 use Rattle.image.proofs.calls.rewrite.Statement.{statement}
 use Rattle.image.proofs.calls.rewrite.Tie as tie
 

@@ -1,9 +1,9 @@
 -- `write_back` meets its contract: the words that were read are the image again. Assumes nothing.
 use mathlib.Core.Path.{sym}
+use borrow.Author.Needs.{needs}
 use denote.Ref.{now}
 use lib.Seq.{length-take-le}
 use Rattle.image.proofs.WrittenBack.{back-refused, back-accepted}
-use borrow.Author.Needs.{needs}
 use Rattle.image.proofs.calls.write_back.Statement.{statement}
 use Rattle.image.proofs.calls.write_back.Tie as tie
 

@@ -1,93 +1,68 @@
-use Rattle.image.proofs.Entries.{entry-access, entry-fence, entry-absent}
 use borrow.Author.Needs.{needs}
+use Rattle.image.proofs.Entries.{entry-access, entry-fence, entry-absent}
 use Rattle.image.proofs.reader.entry_word.Statement.{statement}
 use Rattle.image.proofs.reader.entry_word.Tie as tie
-use Rattle.image.proofs.reader.entry_word.Reads as reads
-use Rattle.image.proofs.reader.entry_word.Lts as lts
-use Rattle.layout.proofs.places.entry_start.Reads as entry-start-reads
-use Rattle.layout.proofs.verdict.number_at.Reads as number-at-reads
 
--- src/reader.rt:20:9
 entry-start-requires : tie.Need-entry-start-requires
 entry-start-requires c κs = search needs
 
--- src/reader.rt:22:55
 mul-number-at : tie.Need-mul-number-at
 mul-number-at c = search needs
 
--- src/reader.rt:22:47
 add-number-at : tie.Need-add-number-at
 add-number-at c = search needs
 
--- src/reader.rt:22:13
 number-at-requires : tie.Need-number-at-requires
 number-at-requires c κs = search needs
 
--- src/reader.rt:23:54
 mul-number-at-2 : tie.Need-mul-number-at-2
 mul-number-at-2 c = search needs
 
--- src/reader.rt:23:46
 add-number-at-2 : tie.Need-add-number-at-2
 add-number-at-2 c = search needs
 
--- src/reader.rt:23:46
 add-number-at-3 : tie.Need-add-number-at-3
 add-number-at-3 c = search needs
 
--- src/reader.rt:23:13
 number-at-requires-2 : tie.Need-number-at-requires-2
 number-at-requires-2 c κs = search needs
 
--- src/reader.rt:24:17
 mul-result : tie.Need-mul-result
 mul-result c = search needs
 
--- src/reader.rt:24:17
 add-result : tie.Need-add-result
 add-result c = search needs
 
--- src/reader.rt:24:16
 cast-result : tie.Need-cast-result
 cast-result c = search needs
 
--- src/reader.rt:24:9
 returns : tie.Need-returns
 returns c = entry-access _ _ _ _ (c .before .before .before .entry-start .ensures .0) _ _ (c .before .before .if1 .taken) (c .before .number-at .ensures .0) (c .number-at2 .ensures .0)
 
--- src/reader.rt:26:21
 number-at-requires-3 : tie.Need-number-at-requires-3
 number-at-requires-3 c κs = search needs
 
--- src/reader.rt:27:46
 add-number-at-4 : tie.Need-add-number-at-4
 add-number-at-4 c = search needs
 
--- src/reader.rt:27:46
 add-number-at-5 : tie.Need-add-number-at-5
 add-number-at-5 c = search needs
 
--- src/reader.rt:27:13
 number-at-requires-4 : tie.Need-number-at-requires-4
 number-at-requires-4 c κs = search needs
 
--- src/reader.rt:28:17
 mul-result-2 : tie.Need-mul-result-2
 mul-result-2 c = search needs
 
--- src/reader.rt:28:17
 add-result-2 : tie.Need-add-result-2
 add-result-2 c = search needs
 
--- src/reader.rt:28:16
 cast-result-2 : tie.Need-cast-result-2
 cast-result-2 c = search needs
 
--- src/reader.rt:28:9
 returns-2 : tie.Need-returns-2
 returns-2 c = entry-fence _ _ _ _ (c .before .before .before .before .entry-start .ensures .0) _ (c .before .before .before .if1 .left) (c .before .before .number-at3 .ensures .0) _ (c .before .if2 .taken) (c .number-at4 .ensures .0)
 
--- src/reader.rt:16:1
 returns-3 : tie.Need-returns-3
 returns-3 c = entry-absent _ _ _ _ (c .before .before .before .entry-start .ensures .0) _ (c .before .before .if1 .left) (c .before .number-at3 .ensures .0) (c .if2 .left)
 

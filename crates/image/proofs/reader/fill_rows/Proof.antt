@@ -1,15 +1,11 @@
-use borrow.Author.Needs.{needs}
 use Prim.Native.Nat.{ℕ, _-_, _/_, _%_, _≤_}
-use mathlib.Core.Path.{_≡_}
-use lib.ListN.{length, length-set}
 use native.Mathlib.Omega.{arith}
-use Rattle.image.specs.Image.{stride, entryWord, Filled}
+use borrow.Author.Needs.{needs}
+use Rattle.operations.specs.Alphabet.{stride}
+use Rattle.image.specs.Image.{entryWord, Filled}
 use Rattle.image.proofs.Fronts.{filled-none, filled-more, filled-to}
 use Rattle.image.proofs.reader.fill_rows.Statement.{statement}
 use Rattle.image.proofs.reader.fill_rows.Tie as tie
-use Rattle.image.proofs.reader.fill_rows.Reads as reads
-use Rattle.image.proofs.reader.fill_rows.Lts as lts
-use Rattle.image.proofs.reader.entry_word.Reads as entry-word-reads
 
 abbrev Inv-loop : tie.InvT-loop
 Inv-loop image rows₀ count j₀ rows j = (j ≤ count) × Filled rows₀ (λ (i : ℕ). entryWord image (i / stride) (i % stride)) j rows
@@ -17,42 +13,33 @@ Inv-loop image rows₀ count j₀ rows j = (j ≤ count) × Filled rows₀ (λ (
 abbrev μ-loop : tie.MeasureT-loop
 μ-loop image rows₀ count j₀ rows j = count - j
 
--- src/reader.rt:71:5
 loop-holds : tie.Need-loop-holds Inv-loop μ-loop
 loop-holds c = (omega arith, filled-none _ _)
 
 cast-entry-word : tie.Need-cast-entry-word Inv-loop μ-loop
 cast-entry-word c = search needs
 
--- src/reader.rt:72:19
 entry-word-requires : tie.Need-entry-word-requires Inv-loop μ-loop
 entry-word-requires c κs = search needs
 
--- src/reader.rt:72:9
 mul-rows : tie.Need-mul-rows Inv-loop μ-loop
 mul-rows c = search needs
 
--- src/reader.rt:72:9
 slice-write-rows : tie.Need-slice-write-rows Inv-loop μ-loop
 slice-write-rows c = search needs
 
--- src/reader.rt:73:9
 add-j : tie.Need-add-j Inv-loop μ-loop
 add-j c = search needs
 
--- src/reader.rt:71:5
 loop-less : tie.Need-loop-less Inv-loop μ-loop
 loop-less c = search needs
 
--- src/reader.rt:71:5
 loop-again : tie.Need-loop-again Inv-loop μ-loop
 loop-again c = let i = c .before .before .loop .inv in (omega arith, filled-more (i .1) _ (omega arith) (c .entry-word .ensures))
 
--- src/reader.rt:66:1
 same-length : tie.Need-same-length Inv-loop μ-loop
 same-length c = search needs
 
--- src/reader.rt:66:1
 returns : tie.Need-returns Inv-loop μ-loop
 returns c = filled-to (c .before .loop .inv .1) _ (omega arith)
 

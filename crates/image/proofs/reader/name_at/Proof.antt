@@ -1,16 +1,13 @@
-use borrow.Author.Needs.{needs}
 use Prim.Native.Nat.{ℕ, _+_, _-_, _≤_}
 use mathlib.Core.Path.{_≡_, refl}
-use lib.ListN.{length, length-set}
 use native.Mathlib.Omega.{arith}
-use Rattle.layout.specs.Layout.{at}
+use borrow.Author.Needs.{needs}
+use lib.ListN.{length, length-set}
+use Rattle.ground.specs.Bytes.{at}
 use Rattle.image.specs.Image.{Front}
 use Rattle.image.proofs.Fronts.{front-none, front-more, front-to, front-all}
 use Rattle.image.proofs.reader.name_at.Statement.{statement}
 use Rattle.image.proofs.reader.name_at.Tie as tie
-use Rattle.image.proofs.reader.name_at.Reads as reads
-use Rattle.image.proofs.reader.name_at.Lts as lts
-use Rattle.layout.proofs.verdict.byte_at.Reads as byte-at-reads
 
 abbrev Inv-loop : tie.InvT-loop
 Inv-loop image from name₀ k₀ name k = (k ≤ 16) × (length name ≡ 16) × Front (λ (j : ℕ). at image (from + j)) k name
@@ -18,35 +15,27 @@ Inv-loop image from name₀ k₀ name k = (k ≤ 16) × (length name ≡ 16) × 
 abbrev μ-loop : tie.MeasureT-loop
 μ-loop image from name₀ k₀ name k = 16 - k
 
--- src/reader.rt:46:5
 loop-holds : tie.Need-loop-holds Inv-loop μ-loop
 loop-holds c = (omega arith, refl, front-none _ _)
 
--- src/reader.rt:47:43
 add-byte-at : tie.Need-add-byte-at Inv-loop μ-loop
 add-byte-at c = search needs
 
--- src/reader.rt:47:19
 byte-at-requires : tie.Need-byte-at-requires Inv-loop μ-loop
 byte-at-requires c κs = search needs
 
--- src/reader.rt:47:9
 array-write-name : tie.Need-array-write-name Inv-loop μ-loop
 array-write-name c = search needs
 
--- src/reader.rt:48:9
 add-k : tie.Need-add-k Inv-loop μ-loop
 add-k c = search needs
 
--- src/reader.rt:46:5
 loop-less : tie.Need-loop-less Inv-loop μ-loop
 loop-less c = search needs
 
--- src/reader.rt:46:5
 loop-again : tie.Need-loop-again Inv-loop μ-loop
 loop-again c = let i = c .before .before .loop .inv in (omega arith, simp length-set (i .1), front-more (i .2) _ (omega arith) (c .byte-at .ensures))
 
--- src/reader.rt:40:1
 returns : tie.Need-returns Inv-loop μ-loop
 returns c = front-all (front-to (c .before .loop .inv .2) 16 (omega arith)) (c .before .loop .inv .1)
 

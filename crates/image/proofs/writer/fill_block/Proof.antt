@@ -1,26 +1,18 @@
 use native.Mathlib.Omega.{arith}
-use Rattle.image.proofs.Sealing.{sealed-front}
 use borrow.Author.Needs.{needs}
+use Rattle.image.proofs.Sealing.{sealed-front}
 use Rattle.image.proofs.writer.fill_block.Statement.{statement}
 use Rattle.image.proofs.writer.fill_block.Tie as tie
-use Rattle.image.proofs.writer.fill_block.Reads as reads
-use Rattle.image.proofs.writer.fill_block.Lts as lts
-use Rattle.image.proofs.writer.fill_contents.Reads as fill-contents-reads
-use Rattle.image.proofs.writer.seal.Reads as seal-reads
 
--- src/writer.rt:105:5
 fill-contents-requires : tie.Need-fill-contents-requires
 fill-contents-requires c κs = search needs
 
--- src/writer.rt:106:5
 seal-requires : tie.Need-seal-requires
 seal-requires c κs = search needs
 
--- src/writer.rt:100:1
 same-length : tie.Need-same-length
 same-length c = search needs
 
--- src/writer.rt:100:1
 returns : tie.Need-returns
 returns c = rw (c .before .before .seal .ensures) (sealed-front _ _ _ (c .before .before .before .before .before .before .fill-contents .ensures) (omega (arith, c .before .before .before .before .before .before .fill-contents .kept .1 .1 .0, c .before .before .before .before .before .before .before .before .before .before .pre .0)))
 

@@ -1,25 +1,19 @@
+use borrow.Author.Needs.{needs}
 use Rattle.image.specs.Image.{half}
 use Rattle.layout.proofs.Tests.{tests}
-use borrow.Author.Needs.{needs}
 use Rattle.image.proofs.writer.half.Statement.{statement}
 use Rattle.image.proofs.writer.half.Tie as tie
-use Rattle.image.proofs.writer.half.Reads as reads
-use Rattle.image.proofs.writer.half.Lts as lts
 
--- src/writer.rt:28:9
 cast-result : tie.Need-cast-result
 cast-result c = search needs
 
--- src/writer.rt:30:9
 cast-result-2 : tie.Need-cast-result-2
 cast-result-2 c = search needs
 
--- src/writer.rt:23:1
 returns : tie.Need-returns
 unfolding half
 returns c = search tests
 
--- src/writer.rt:23:1
 returns-2 : tie.Need-returns-2
 unfolding half
 returns-2 c = search tests

@@ -1,31 +1,22 @@
-use mathlib.Core.Path.{ap}
 use Prim.Native.Nat.{ℕ, _%_}
-use Rattle.image.proofs.Values.{used-in, used-out}
+use mathlib.Core.Path.{ap}
 use borrow.Author.Needs.{needs}
+use Rattle.image.proofs.Values.{used-in, used-out}
 use Rattle.image.proofs.writer.next_of.Statement.{statement}
 use Rattle.image.proofs.writer.next_of.Tie as tie
-use Rattle.image.proofs.writer.next_of.Reads as reads
-use Rattle.image.proofs.writer.next_of.Lts as lts
-use Rattle.layout.proofs.checksum.wide.Reads as wide-reads
-use Rattle.image.proofs.writer.word_at.Reads as word-at-reads
 
--- src/writer.rt:48:16
 wide-requires : tie.Need-wide-requires
 wide-requires c κs = search needs
 
--- src/writer.rt:49:17
 word-at-requires : tie.Need-word-at-requires
 word-at-requires c κs = search needs
 
--- src/writer.rt:49:16
 cast-result : tie.Need-cast-result
 cast-result c = search needs
 
--- src/writer.rt:49:9
 returns : tie.Need-returns
 returns c = used-in _ _ _ _ _ (c .before .before .wide .ensures .0) (c .before .if1 .taken) (ap (λ (x : ℕ). x % 256) (c .word-at .ensures))
 
--- src/writer.rt:44:1
 returns-2 : tie.Need-returns-2
 returns-2 c = used-out _ _ _ 0 _ (c .before .wide .ensures .0) (c .if1 .left)
 

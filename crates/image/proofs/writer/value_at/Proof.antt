@@ -1,150 +1,110 @@
 use mathlib.Core.Path.{refl}
-use Rattle.layout.proofs.Standing.{stands-at}
-use Rattle.image.proofs.Values.{value-as}
 use native.Mathlib.Omega.{arith}
 use borrow.Author.Needs.{needs}
+use Rattle.layout.proofs.Standing.{stands-at}
+use Rattle.image.proofs.Values.{value-as}
 use Rattle.image.proofs.writer.value_at.Statement.{statement}
 use Rattle.image.proofs.writer.value_at.Tie as tie
-use Rattle.image.proofs.writer.value_at.Reads as reads
-use Rattle.image.proofs.writer.value_at.Lts as lts
-use Rattle.layout.proofs.places.stands_at.Reads as stands-at-reads
-use Rattle.image.proofs.writer.fence_of.Reads as fence-of-reads
-use Rattle.image.proofs.writer.half.Reads as half-reads
-use Rattle.image.proofs.writer.next_of.Reads as next-of-reads
 
--- src/writer.rt:59:9
 stands-at-requires : tie.Need-stands-at-requires
 stands-at-requires c κs = search needs
 
--- src/writer.rt:61:34
 enum-told : tie.Need-enum-told
 enum-told c = search needs
 
--- src/writer.rt:61:26
 half-requires : tie.Need-half-requires
 half-requires c κs = search needs
 
--- src/writer.rt:62:24
 enum-told-2 : tie.Need-enum-told-2
 enum-told-2 c = search needs
 
--- src/writer.rt:63:23
 enum-told-3 : tie.Need-enum-told-3
 enum-told-3 c = search needs
 
--- src/writer.rt:64:26
 enum-told-4 : tie.Need-enum-told-4
 enum-told-4 c = search needs
 
--- src/writer.rt:65:34
 enum-told-5 : tie.Need-enum-told-5
 enum-told-5 c = search needs
 
--- src/writer.rt:66:32
 enum-told-6 : tie.Need-enum-told-6
 enum-told-6 c = search needs
 
--- src/writer.rt:67:29
 enum-known-place : tie.Need-enum-known-place
 enum-known-place c = search needs
 
--- src/writer.rt:67:35
 element-copy-out-result : tie.Need-element-copy-out-result
 element-copy-out-result c = let s = stands-at _ _ _ (c .before .before .before .stands-at .ensures) (c .before .place .given .1) in omega arith
 
--- src/writer.rt:68:27
 enum-known-place-2 : tie.Need-enum-known-place-2
 enum-known-place-2 c = search needs
 
--- src/writer.rt:68:33
 element-copy-out-result-2 : tie.Need-element-copy-out-result-2
 element-copy-out-result-2 c = let s = stands-at _ _ _ (c .before .before .before .stands-at .ensures) (c .before .place2 .given .1) in omega arith
 
--- src/writer.rt:69:22
 enum-known-place-3 : tie.Need-enum-known-place-3
 enum-known-place-3 c = search needs
 
--- src/writer.rt:69:35
 fence-of-requires : tie.Need-fence-of-requires
 fence-of-requires c κs = let s = stands-at _ _ _ (c .before .before .before .stands-at .ensures) (c .before .place3 .given .1) in (omega arith, omega arith)
 
--- src/writer.rt:70:21
 enum-known-place-4 : tie.Need-enum-known-place-4
 enum-known-place-4 c = search needs
 
--- src/writer.rt:70:34
 next-of-requires : tie.Need-next-of-requires
 next-of-requires c κs = let s = stands-at _ _ _ (c .before .before .before .stands-at .ensures) (c .before .place4 .given .1) in (omega arith, omega arith)
 
--- src/writer.rt:71:26
 enum-known-place-5 : tie.Need-enum-known-place-5
 enum-known-place-5 c = search needs
 
--- src/writer.rt:71:63
 add-next-of : tie.Need-add-next-of
 add-next-of c = let s = stands-at _ _ _ (c .before .before .before .stands-at .ensures) (c .before .place5 .given .1) in omega arith
 
--- src/writer.rt:71:39
 next-of-requires-2 : tie.Need-next-of-requires-2
 next-of-requires-2 c κs = let s = stands-at _ _ _ (c .before .before .before .stands-at .ensures) (c .before .place5 .given .1) in (omega arith, omega arith)
 
--- src/writer.rt:72:27
 enum-told-7 : tie.Need-enum-told-7
 enum-told-7 c = search needs
 
--- src/writer.rt:73:25
 enum-told-8 : tie.Need-enum-told-8
 enum-told-8 c = search needs
 
--- src/writer.rt:55:1
 returns : tie.Need-returns
 returns c = value-as _ _ _ _ _ _ (c .before .before .before .stands-at .ensures) (c .before .enum-told .given .1) (c .half .ensures)
 
--- src/writer.rt:55:1
 returns-2 : tie.Need-returns-2
 returns-2 c = value-as _ _ _ _ _ _ (c .before .before .stands-at .ensures) (c .enum-told2 .given .1) refl
 
--- src/writer.rt:55:1
 returns-3 : tie.Need-returns-3
 returns-3 c = value-as _ _ _ _ _ _ (c .before .before .stands-at .ensures) (c .enum-told3 .given .1) refl
 
--- src/writer.rt:55:1
 returns-4 : tie.Need-returns-4
 returns-4 c = value-as _ _ _ _ _ _ (c .before .before .stands-at .ensures) (c .enum-told4 .given .1) refl
 
--- src/writer.rt:55:1
 returns-5 : tie.Need-returns-5
 returns-5 c = value-as _ _ _ _ _ _ (c .before .before .stands-at .ensures) (c .enum-told5 .given .1) refl
 
--- src/writer.rt:55:1
 returns-6 : tie.Need-returns-6
 returns-6 c = value-as _ _ _ _ _ _ (c .before .before .stands-at .ensures) (c .enum-told6 .given .1) refl
 
--- src/writer.rt:55:1
 returns-7 : tie.Need-returns-7
 returns-7 c = value-as _ _ _ _ _ _ (c .before .before .before .before .stands-at .ensures) (c .before .before .place .given .1) refl
 
--- src/writer.rt:55:1
 returns-8 : tie.Need-returns-8
 returns-8 c = value-as _ _ _ _ _ _ (c .before .before .before .before .stands-at .ensures) (c .before .before .place2 .given .1) refl
 
--- src/writer.rt:55:1
 returns-9 : tie.Need-returns-9
 returns-9 c = value-as _ _ _ _ _ _ (c .before .before .before .before .stands-at .ensures) (c .before .before .place3 .given .1) (c .fence-of .ensures)
 
--- src/writer.rt:55:1
 returns-10 : tie.Need-returns-10
 returns-10 c = value-as _ _ _ _ _ _ (c .before .before .before .before .stands-at .ensures) (c .before .before .place4 .given .1) (c .next-of .ensures)
 
--- src/writer.rt:55:1
 returns-11 : tie.Need-returns-11
 returns-11 c = value-as _ _ _ _ _ _ (c .before .before .before .before .stands-at .ensures) (c .before .before .place5 .given .1) (c .next-of2 .ensures)
 
--- src/writer.rt:55:1
 returns-12 : tie.Need-returns-12
 returns-12 c = value-as _ _ _ _ _ _ (c .before .before .stands-at .ensures) (c .enum-told7 .given .1) refl
 
--- src/writer.rt:55:1
 returns-13 : tie.Need-returns-13
 returns-13 c = value-as _ _ _ _ _ _ (c .before .before .stands-at .ensures) (c .enum-told8 .given .1) refl
 

@@ -1,8 +1,8 @@
 -- `fill` is safe and ends. Assumes nothing.
 use Prim.Native.Nat.{_-_}
 use mathlib.Core.Path.{_≡_}
-use lib.ListN.{length}
 use borrow.Author.Needs.{needs}
+use lib.ListN.{length}
 use Rattle.image_cases.proofs.handmade.fill.Statement.{statement}
 use Rattle.image_cases.proofs.handmade.fill.Tie as tie
 

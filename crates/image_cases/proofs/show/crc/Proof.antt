@@ -1,7 +1,7 @@
 -- `crc` is safe and ends: the measure is what is left of the bytes. Assumes nothing.
 use Prim.Native.Nat.{_-_}
-use lib.ListN.{length}
 use borrow.Author.Needs.{needs}
+use lib.ListN.{length}
 use Rattle.image_cases.proofs.show.crc.Statement.{statement}
 use Rattle.image_cases.proofs.show.crc.Tie as tie
 

@@ -1,7 +1,7 @@
 -- `print_checks` is safe and ends. Assumes nothing.
 use Prim.Native.Nat.{_-_, _≤_}
-use lib.ListN.{length}
 use borrow.Author.Needs.{needs}
+use lib.ListN.{length}
 use Rattle.image_cases.proofs.show.print_checks.Statement.{statement}
 use Rattle.image_cases.proofs.show.print_checks.Tie as tie
 

@@ -1,7 +1,7 @@
 -- `print_words` is safe and ends: the measure is what is left of the words. Assumes nothing.
 use Prim.Native.Nat.{_-_}
-use lib.ListN.{length}
 use borrow.Author.Needs.{needs}
+use lib.ListN.{length}
 use Rattle.image_cases.proofs.show.print_words.Statement.{statement}
 use Rattle.image_cases.proofs.show.print_words.Tie as tie
 

@@ -1,8 +1,8 @@
 -- `read` is safe and ends. Assumes nothing.
 use mathlib.Core.Path.{sym}
 use native.Mathlib.Omega.{arith}
-use lib.Seq.{length-take-le}
 use borrow.Author.Needs.{needs}
+use lib.Seq.{length-take-le}
 use Rattle.image_cases.proofs.tries.read.Statement.{statement}
 use Rattle.image_cases.proofs.tries.read.Tie as tie
 

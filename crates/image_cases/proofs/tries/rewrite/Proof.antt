@@ -1,6 +1,6 @@
 -- `rewrite` is safe and ends. Assumes nothing.
-use lib.Seq.{length-front}
 use borrow.Author.Needs.{needs}
+use lib.Seq.{length-front}
 use Rattle.image_cases.proofs.tries.rewrite.Statement.{statement}
 use Rattle.image_cases.proofs.tries.rewrite.Tie as tie
 

@@ -1,6 +1,6 @@
 -- `run` is safe and ends. Assumes nothing.
-use lib.Seq.{length-front}
 use borrow.Author.Needs.{needs}
+use lib.Seq.{length-front}
 use Rattle.image_cases.proofs.tries.run.Statement.{statement}
 use Rattle.image_cases.proofs.tries.run.Tie as tie
 

@@ -1,9 +1,9 @@
 -- `block_check` meets its contract. Assumes nothing.
 use mathlib.Core.Path.{_∙_}
 use native.Mathlib.Omega.{arith}
+use borrow.Author.Needs.{needs}
 use Rattle.layout.specs.Barred.{checkOf}
 use Rattle.layout.proofs.Blocks.{check-there, check-absent}
-use borrow.Author.Needs.{needs}
 use Rattle.layout.proofs.checksum.block_check.Statement.{statement}
 use Rattle.layout.proofs.checksum.block_check.Tie as tie
 

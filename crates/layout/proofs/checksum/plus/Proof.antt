@@ -2,30 +2,22 @@ use borrow.Author.Needs.{needs}
 use Rattle.layout.proofs.Tests.{tests}
 use Rattle.layout.proofs.checksum.plus.Statement.{statement}
 use Rattle.layout.proofs.checksum.plus.Tie as tie
-use Rattle.layout.proofs.checksum.plus.Reads as reads
-use Rattle.layout.proofs.checksum.plus.Lts as lts
 
--- src/checksum.rt:21:8
 add-if1 : tie.Need-add-if1
 add-if1 c = search needs
 
--- src/checksum.rt:22:9
 add-result : tie.Need-add-result
 add-result c = search needs
 
--- src/checksum.rt:24:9
 add-result-2 : tie.Need-add-result-2
 add-result-2 c = search needs
 
--- src/checksum.rt:24:9
 sub-result : tie.Need-sub-result
 sub-result c = search needs
 
--- src/checksum.rt:17:1
 returns : tie.Need-returns
 returns c = search tests
 
--- src/checksum.rt:17:1
 returns-2 : tie.Need-returns-2
 returns-2 c = search tests
 

@@ -1,45 +1,32 @@
-use Rattle.layout.proofs.Tests.{tests}
 use borrow.Author.Needs.{needs}
+use Rattle.layout.proofs.Tests.{tests}
 use Rattle.layout.proofs.places.content_place.Statement.{statement}
 use Rattle.layout.proofs.places.content_place.Tie as tie
-use Rattle.layout.proofs.places.content_place.Reads as reads
-use Rattle.layout.proofs.places.content_place.Lts as lts
-use Rattle.layout.proofs.places.entry_place.Reads as entry-place-reads
-use Rattle.layout.proofs.places.header_place.Reads as header-place-reads
 
--- src/layout.rt:72:9
 header-place-requires : tie.Need-header-place-requires
 header-place-requires c κs = search needs
 
--- src/layout.rt:72:9
 returns : tie.Need-returns
 returns c = search tests
 
--- src/layout.rt:75:10
 sub-entry-place : tie.Need-sub-entry-place
 sub-entry-place c = search needs
 
--- src/layout.rt:75:9
 mul-entry-place : tie.Need-mul-entry-place
 mul-entry-place c = search needs
 
--- src/layout.rt:75:40
 sub-entry-place-2 : tie.Need-sub-entry-place-2
 sub-entry-place-2 c = search needs
 
--- src/layout.rt:75:9
 add-entry-place : tie.Need-add-entry-place
 add-entry-place c = search needs
 
--- src/layout.rt:76:10
 sub-entry-place-3 : tie.Need-sub-entry-place-3
 sub-entry-place-3 c = search needs
 
--- src/layout.rt:74:5
 entry-place-requires : tie.Need-entry-place-requires
 entry-place-requires c κs = search needs
 
--- src/layout.rt:67:1
 returns-2 : tie.Need-returns-2
 returns-2 c = search tests
 

@@ -1,18 +1,13 @@
 use Rattle.layout.proofs.Tests.{tests}
 use Rattle.layout.proofs.places.entry_place.Statement.{statement}
 use Rattle.layout.proofs.places.entry_place.Tie as tie
-use Rattle.layout.proofs.places.entry_place.Reads as reads
-use Rattle.layout.proofs.places.entry_place.Lts as lts
 
--- src/layout.rt:58:9
 returns : tie.Need-returns
 returns c = search tests
 
--- src/layout.rt:54:1
 returns-2 : tie.Need-returns-2
 returns-2 c = search tests
 
--- src/layout.rt:54:1
 returns-3 : tie.Need-returns-3
 returns-3 c = search tests
 

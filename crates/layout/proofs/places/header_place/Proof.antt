@@ -1,38 +1,28 @@
 use Rattle.layout.proofs.Tests.{tests}
 use Rattle.layout.proofs.places.header_place.Statement.{statement}
 use Rattle.layout.proofs.places.header_place.Tie as tie
-use Rattle.layout.proofs.places.header_place.Reads as reads
-use Rattle.layout.proofs.places.header_place.Lts as lts
 
--- src/layout.rt:31:9
 returns : tie.Need-returns
 returns c = search tests
 
--- src/layout.rt:34:9
 returns-2 : tie.Need-returns-2
 returns-2 c = search tests
 
--- src/layout.rt:37:9
 returns-3 : tie.Need-returns-3
 returns-3 c = search tests
 
--- src/layout.rt:40:9
 returns-4 : tie.Need-returns-4
 returns-4 c = search tests
 
--- src/layout.rt:43:9
 returns-5 : tie.Need-returns-5
 returns-5 c = search tests
 
--- src/layout.rt:46:9
 returns-6 : tie.Need-returns-6
 returns-6 c = search tests
 
--- src/layout.rt:49:9
 returns-7 : tie.Need-returns-7
 returns-7 c = search tests
 
--- src/layout.rt:27:1
 returns-8 : tie.Need-returns-8
 returns-8 c = search tests
 

@@ -1,152 +1,109 @@
 use mathlib.Core.Path.{refl}
-use Rattle.layout.proofs.Standing.{stands-at, barred-as}
 use native.Mathlib.Omega.{arith}
 use borrow.Author.Needs.{needs}
+use Rattle.layout.proofs.Standing.{stands-at, barred-as}
 use Rattle.layout.proofs.verdict.is_barred.Statement.{statement}
 use Rattle.layout.proofs.verdict.is_barred.Tie as tie
-use Rattle.layout.proofs.verdict.is_barred.Reads as reads
-use Rattle.layout.proofs.verdict.is_barred.Lts as lts
-use Rattle.layout.proofs.places.stands_at.Reads as stands-at-reads
-use Rattle.layout.proofs.verdict.is_barred_fence.Reads as is-barred-fence-reads
-use Rattle.layout.proofs.verdict.is_barred_fence_next.Reads as is-barred-fence-next-reads
-use Rattle.layout.proofs.verdict.is_barred_name.Reads as is-barred-name-reads
-use Rattle.layout.proofs.verdict.is_barred_next.Reads as is-barred-next-reads
-use Rattle.layout.proofs.verdict.is_wrong_count.Reads as is-wrong-count-reads
-use Rattle.layout.proofs.verdict.number_at.Reads as number-at-reads
 
--- src/verdict.rt:184:9
 number-at-requires : tie.Need-number-at-requires
 number-at-requires c κs = search needs
 
--- src/verdict.rt:185:9
 stands-at-requires : tie.Need-stands-at-requires
 stands-at-requires c κs = search needs
 
--- src/verdict.rt:187:26
 enum-told : tie.Need-enum-told
 enum-told c = search needs
 
--- src/verdict.rt:188:25
 enum-told-2 : tie.Need-enum-told-2
 enum-told-2 c = search needs
 
--- src/verdict.rt:189:27
 enum-told-3 : tie.Need-enum-told-3
 enum-told-3 c = search needs
 
--- src/verdict.rt:190:24
 enum-told-4 : tie.Need-enum-told-4
 enum-told-4 c = search needs
 
--- src/verdict.rt:191:23
 enum-told-5 : tie.Need-enum-told-5
 enum-told-5 c = search needs
 
--- src/verdict.rt:192:26
 enum-told-6 : tie.Need-enum-told-6
 enum-told-6 c = search needs
 
--- src/verdict.rt:192:26
 is-wrong-count-requires : tie.Need-is-wrong-count-requires
 is-wrong-count-requires c κs = search needs
 
--- src/verdict.rt:193:34
 enum-told-7 : tie.Need-enum-told-7
 enum-told-7 c = search needs
 
--- src/verdict.rt:194:32
 enum-told-8 : tie.Need-enum-told-8
 enum-told-8 c = search needs
 
--- src/verdict.rt:195:29
 enum-known-place : tie.Need-enum-known-place
 enum-known-place c = search needs
 
--- src/verdict.rt:195:35
 is-barred-name-requires : tie.Need-is-barred-name-requires
 is-barred-name-requires c κs = let s = stands-at _ _ _ (c .before .before .before .stands-at .ensures) (c .before .place .given .1) in (omega arith, omega arith)
 
--- src/verdict.rt:196:27
 enum-known-place-2 : tie.Need-enum-known-place-2
 enum-known-place-2 c = search needs
 
--- src/verdict.rt:196:33
 is-barred-name-requires-2 : tie.Need-is-barred-name-requires-2
 is-barred-name-requires-2 c κs = let s = stands-at _ _ _ (c .before .before .before .stands-at .ensures) (c .before .place2 .given .1) in (omega arith, omega arith)
 
--- src/verdict.rt:197:22
 enum-known-place-3 : tie.Need-enum-known-place-3
 enum-known-place-3 c = search needs
 
--- src/verdict.rt:197:35
 is-barred-fence-requires : tie.Need-is-barred-fence-requires
 is-barred-fence-requires c κs = search needs
 
--- src/verdict.rt:198:21
 enum-known-place-4 : tie.Need-enum-known-place-4
 enum-known-place-4 c = search needs
 
--- src/verdict.rt:198:34
 is-barred-next-requires : tie.Need-is-barred-next-requires
 is-barred-next-requires c κs = let s = stands-at _ _ _ (c .before .before .before .stands-at .ensures) (c .before .place4 .given .1) in omega arith
 
--- src/verdict.rt:199:26
 enum-known-place-5 : tie.Need-enum-known-place-5
 enum-known-place-5 c = search needs
 
--- src/verdict.rt:199:39
 is-barred-fence-next-requires : tie.Need-is-barred-fence-next-requires
 is-barred-fence-next-requires c κs = search needs
 
--- src/verdict.rt:181:1
 returns : tie.Need-returns
 returns c = barred-as _ _ _ _ _ _ (c .before .before .before .number-at .ensures .0) (c .before .before .stands-at .ensures) (c .enum-told .given .1) refl
 
--- src/verdict.rt:181:1
 returns-2 : tie.Need-returns-2
 returns-2 c = barred-as _ _ _ _ _ _ (c .before .before .before .number-at .ensures .0) (c .before .before .stands-at .ensures) (c .enum-told2 .given .1) refl
 
--- src/verdict.rt:181:1
 returns-3 : tie.Need-returns-3
 returns-3 c = barred-as _ _ _ _ _ _ (c .before .before .before .number-at .ensures .0) (c .before .before .stands-at .ensures) (c .enum-told3 .given .1) refl
 
--- src/verdict.rt:181:1
 returns-4 : tie.Need-returns-4
 returns-4 c = barred-as _ _ _ _ _ _ (c .before .before .before .number-at .ensures .0) (c .before .before .stands-at .ensures) (c .enum-told4 .given .1) refl
 
--- src/verdict.rt:181:1
 returns-5 : tie.Need-returns-5
 returns-5 c = barred-as _ _ _ _ _ _ (c .before .before .before .number-at .ensures .0) (c .before .before .stands-at .ensures) (c .enum-told5 .given .1) refl
 
--- src/verdict.rt:181:1
 returns-6 : tie.Need-returns-6
 returns-6 c = barred-as _ _ _ _ _ _ (c .before .before .before .before .number-at .ensures .0) (c .before .before .before .stands-at .ensures) (c .before .enum-told6 .given .1) (c .is-wrong-count .ensures)
 
--- src/verdict.rt:181:1
 returns-7 : tie.Need-returns-7
 returns-7 c = barred-as _ _ _ _ _ _ (c .before .before .before .number-at .ensures .0) (c .before .before .stands-at .ensures) (c .enum-told7 .given .1) refl
 
--- src/verdict.rt:181:1
 returns-8 : tie.Need-returns-8
 returns-8 c = barred-as _ _ _ _ _ _ (c .before .before .before .number-at .ensures .0) (c .before .before .stands-at .ensures) (c .enum-told8 .given .1) refl
 
--- src/verdict.rt:181:1
 returns-9 : tie.Need-returns-9
 returns-9 c = barred-as _ _ _ _ _ _ (c .before .before .before .before .before .number-at .ensures .0) (c .before .before .before .before .stands-at .ensures) (c .before .before .place .given .1) (c .is-barred-name .ensures)
 
--- src/verdict.rt:181:1
 returns-10 : tie.Need-returns-10
 returns-10 c = barred-as _ _ _ _ _ _ (c .before .before .before .before .before .number-at .ensures .0) (c .before .before .before .before .stands-at .ensures) (c .before .before .place2 .given .1) (c .is-barred-name2 .ensures)
 
--- src/verdict.rt:181:1
 returns-11 : tie.Need-returns-11
 returns-11 c = barred-as _ _ _ _ _ _ (c .before .before .before .before .before .number-at .ensures .0) (c .before .before .before .before .stands-at .ensures) (c .before .before .place3 .given .1) (c .is-barred-fence .ensures)
 
--- src/verdict.rt:181:1
 returns-12 : tie.Need-returns-12
 returns-12 c = barred-as _ _ _ _ _ _ (c .before .before .before .before .before .number-at .ensures .0) (c .before .before .before .before .stands-at .ensures) (c .before .before .place4 .given .1) (c .is-barred-next .ensures)
 
--- src/verdict.rt:181:1
 returns-13 : tie.Need-returns-13
 returns-13 c = barred-as _ _ _ _ _ _ (c .before .before .before .before .before .number-at .ensures .0) (c .before .before .before .before .stands-at .ensures) (c .before .before .place5 .given .1) (c .is-barred-fence-next .ensures)
 

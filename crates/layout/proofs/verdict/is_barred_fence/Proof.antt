@@ -1,28 +1,20 @@
-use Rattle.layout.proofs.Names.{fence-unused, fence-high, fence-number}
 use borrow.Author.Needs.{needs}
+use Rattle.layout.proofs.Names.{fence-unused, fence-high, fence-number}
 use Rattle.layout.proofs.verdict.is_barred_fence.Statement.{statement}
 use Rattle.layout.proofs.verdict.is_barred_fence.Tie as tie
-use Rattle.layout.proofs.verdict.is_barred_fence.Reads as reads
-use Rattle.layout.proofs.verdict.is_barred_fence.Lts as lts
-use Rattle.layout.proofs.verdict.number_at.Reads as number-at-reads
 
--- src/verdict.rt:157:8
 number-at-requires : tie.Need-number-at-requires
 number-at-requires c κs = search needs
 
--- src/verdict.rt:158:9
 returns : tie.Need-returns
 returns c = fence-unused _ _ _ _ (c .before .number-at .ensures .0) (c .if1 .taken)
 
--- src/verdict.rt:160:8
 number-at-requires-2 : tie.Need-number-at-requires-2
 number-at-requires-2 c κs = search needs
 
--- src/verdict.rt:161:9
 returns-2 : tie.Need-returns-2
 returns-2 c = fence-high _ _ _ _ (c .before .before .before .number-at .ensures .0) _ (c .before .number-at2 .ensures .0) (c .before .before .if1 .left) (c .if2 .taken)
 
--- src/verdict.rt:154:1
 returns-3 : tie.Need-returns-3
 returns-3 c = fence-number _ _ _ _ (c .before .before .before .number-at .ensures .0) _ (c .before .number-at2 .ensures .0) (c .before .before .if1 .left) (c .if2 .left)
 

@@ -1,38 +1,26 @@
-use Rattle.layout.proofs.Names.{name-zero, name-good, name-bad}
 use borrow.Author.Needs.{needs}
+use Rattle.layout.proofs.Names.{name-zero, name-good, name-bad}
 use Rattle.layout.proofs.verdict.is_barred_name.Statement.{statement}
 use Rattle.layout.proofs.verdict.is_barred_name.Tie as tie
-use Rattle.layout.proofs.verdict.is_barred_name.Reads as reads
-use Rattle.layout.proofs.verdict.is_barred_name.Lts as lts
-use Rattle.layout.proofs.verdict.byte_at.Reads as byte-at-reads
-use Rattle.layout.proofs.verdict.has_ended.Reads as has-ended-reads
-use Rattle.layout.proofs.verdict.is_name_byte.Reads as is-name-byte-reads
 
--- src/verdict.rt:67:31
 add-byte-at : tie.Need-add-byte-at
 add-byte-at c = search needs
 
--- src/verdict.rt:67:9
 byte-at-requires : tie.Need-byte-at-requires
 byte-at-requires c κs = search needs
 
--- src/verdict.rt:69:9
 returns : tie.Need-returns
 returns c = name-zero _ _ _ _ (c .before .byte-at .ensures) (c .if1 .taken)
 
--- src/verdict.rt:71:8
 is-name-byte-requires : tie.Need-is-name-byte-requires
 is-name-byte-requires c κs = search needs
 
--- src/verdict.rt:72:9
 has-ended-requires : tie.Need-has-ended-requires
 has-ended-requires c κs = search needs
 
--- src/verdict.rt:72:9
 returns-2 : tie.Need-returns-2
 returns-2 c = name-good _ _ _ _ (c .before .before .before .before .byte-at .ensures) _ _ (c .before .before .before .if1 .left) (c .before .before .is-name-byte .ensures) (c .before .if2 .taken) (c .has-ended .ensures)
 
--- src/verdict.rt:63:1
 returns-3 : tie.Need-returns-3
 returns-3 c = name-bad _ _ _ _ (c .before .before .before .byte-at .ensures) _ (c .before .before .if1 .left) (c .before .is-name-byte .ensures) (c .if2 .left)
 

@@ -1,11 +1,8 @@
+use borrow.Author.Needs.{needs}
 use Rattle.layout.proofs.Tests.{tests}
 use Rattle.layout.specs.Barred.{wrongCount}
-use borrow.Author.Needs.{needs}
 use Rattle.layout.proofs.verdict.is_wrong_count.Statement.{statement}
 use Rattle.layout.proofs.verdict.is_wrong_count.Tie as tie
-use Rattle.layout.proofs.verdict.is_wrong_count.Reads as reads
-use Rattle.layout.proofs.verdict.is_wrong_count.Lts as lts
-use Rattle.layout.proofs.places.blocks_for.Reads as blocks-for-reads
 
 returns : tie.Need-returns
 unfolding wrongCount

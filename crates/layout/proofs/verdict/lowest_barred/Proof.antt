@@ -1,10 +1,11 @@
-use Rattle.layout.proofs.Lowest.{lowest-here, lowest-none, lowest-start}
-use Rattle.layout.proofs.Zeros.{skips-on}
-use borrow.Author.Needs.{needs}
 use Prim.Native.Nat.{_-_}
 use mathlib.Core.Path.{_≡_, sym, _∙_}
+use borrow.Author.Needs.{needs}
 use lib.ListN.{length}
-use Rattle.layout.specs.Barred.{targetFencesOf, barred, lowest}
+use Rattle.ground.proofs.Lowest.{lowest-here, lowest-none, lowest-start}
+use Rattle.ground.specs.Lowest.{lowest}
+use Rattle.layout.proofs.Zeros.{skips-on}
+use Rattle.layout.specs.Barred.{targetFencesOf, barred}
 use Rattle.layout.proofs.verdict.lowest_barred.Statement.{statement}
 use Rattle.layout.proofs.verdict.lowest_barred.Tie as tie
 

@@ -1,25 +1,18 @@
-use Rattle.layout.proofs.Names.{next-unused, next-leads, next-zero}
 use native.Mathlib.Omega.{arith}
 use borrow.Author.Needs.{needs}
+use Rattle.layout.proofs.Names.{next-unused, next-leads, next-zero}
 use Rattle.layout.proofs.verdict.next_below.Statement.{statement}
 use Rattle.layout.proofs.verdict.next_below.Tie as tie
-use Rattle.layout.proofs.verdict.next_below.Reads as reads
-use Rattle.layout.proofs.verdict.next_below.Lts as lts
-use Rattle.layout.proofs.verdict.number_at.Reads as number-at-reads
 
--- src/verdict.rt:91:9
 number-at-requires : tie.Need-number-at-requires
 number-at-requires c κs = search needs
 
--- src/verdict.rt:93:9
 returns : tie.Need-returns
 returns c = (next-unused _ _ _ _ (c .before .number-at .ensures .0) (c .if1 .taken), omega arith)
 
--- src/verdict.rt:88:1
 returns-2 : tie.Need-returns-2
 returns-2 c = (next-leads _ _ _ _ (c .before .before .number-at .ensures .0) (c .before .if1 .left) (c .if2 .taken), omega arith)
 
--- src/verdict.rt:88:1
 returns-3 : tie.Need-returns-3
 returns-3 c = (next-zero _ _ _ _ (c .before .before .number-at .ensures .0) (c .before .if1 .left) (c .if2 .left), omega arith)
 

@@ -1,6 +1,6 @@
 use Prim.Native.Nat.{_-_}
-use lib.ListN.{length}
 use borrow.Author.Needs.{needs}
+use lib.ListN.{length}
 use Rattle.layout.specs.Barred.{Skips}
 use Rattle.layout.proofs.Zeros.{skips-none, skips-zero}
 use Rattle.layout.proofs.verdict.past_zeros.Statement.{statement}

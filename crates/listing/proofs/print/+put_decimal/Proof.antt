@@ -3,13 +3,13 @@ use Prim.Native.Nat.{ℕ, _/_, _%_, _<_}
 use mathlib.Core.Path.{refl, sym, ap, _∙_}
 use mathlib.Core.Logic.{⊎-elim}
 use native.Mathlib.Omega.{arith}
+use borrow.Fn.Kinds.{In}
+use borrow.Fn.PlainCycle.{Measures, is, falls, and}
 use denote.Ref.{now}
 use lib.ListN.{length, length-append}
 use Rattle.writing.proofs.Putting.{put-then, put-is}
 use Rattle.listing.specs.Decimal.{digit, decimal}
 use Rattle.listing.proofs.Decimals.{more-digits, Led, led-nothing, led-more}
-use borrow.Fn.Kinds.{In}
-use borrow.Fn.PlainCycle.{Measures, is, falls, and}
 use Rattle.listing.proofs.print.put_decimal.Reads as put-decimal
 use Rattle.listing.proofs.print.put_decimal.Kinds as put-decimal-kinds
 use Rattle.listing.proofs.print.+put_decimal.Lts-put_decimal as put-decimal-lts

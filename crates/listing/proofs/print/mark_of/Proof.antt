@@ -1,8 +1,8 @@
 -- `mark_of` meets its contract. Assumes nothing.
 use mathlib.Core.Path.{sym, ap, _∙_}
+use borrow.Author.Needs.{needs}
 use Rattle.listing.specs.Printed.{fenceMark}
 use Rattle.listing.proofs.Printing.{decoded-refused, mark-none, mark-fence}
-use borrow.Author.Needs.{needs}
 use Rattle.listing.proofs.print.mark_of.Statement.{statement}
 use Rattle.listing.proofs.print.mark_of.Tie as tie
 

@@ -1,9 +1,9 @@
 -- `next_of` meets its contract. Assumes nothing.
 use mathlib.Core.Path.{sym, ap}
 use native.Mathlib.Omega.{arith}
+use borrow.Author.Needs.{needs}
 use Rattle.listing.specs.Printed.{nextState}
 use Rattle.listing.proofs.Printing.{decoded-refused, decoded-taken}
-use borrow.Author.Needs.{needs}
 use Rattle.listing.proofs.print.next_of.Statement.{statement}
 use Rattle.listing.proofs.print.next_of.Tie as tie
 

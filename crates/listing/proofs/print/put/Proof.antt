@@ -1,10 +1,10 @@
 -- `put` meets its contract. Assumes nothing.
-use native.Mathlib.Omega.{arith}
 use Prim.Native.Nat.{_-_}
+use native.Mathlib.Omega.{arith}
+use borrow.Author.Needs.{needs}
 use denote.Ref.{now}
 use lib.ListN.{length, take, drop}
 use Rattle.listing.proofs.Printing.{copied}
-use borrow.Author.Needs.{needs}
 use Rattle.listing.proofs.print.put.Statement.{statement}
 use Rattle.listing.proofs.print.put.Tie as tie
 

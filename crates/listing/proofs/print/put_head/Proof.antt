@@ -1,15 +1,15 @@
 -- `put_head` meets its contract: its parts one behind another. Assumes nothing.
 use mathlib.Core.List.{[], _∷_, _++_}
 use native.Mathlib.Omega.{arith}
+use borrow.Author.Needs.{needs}
 use lib.ListN.{length-append}
-use Rattle.models.specs.Bytes.{bytes}
+use Rattle.ground.specs.Bytes.{bytes}
 use Rattle.writing.specs.Writing.{unfilled}
 use Rattle.writing.proofs.Putting.{put-then, put-is}
 use Rattle.listing.specs.Decimal.{decimal}
 use Rattle.listing.specs.Printed.{wayWord, numberLine}
 use Rattle.listing.proofs.Decimals.{length-digits}
 use Rattle.listing.proofs.Printing.{as-names}
-use borrow.Author.Needs.{needs}
 use Rattle.listing.proofs.print.put_head.Statement.{statement}
 use Rattle.listing.proofs.print.put_head.Tie as tie
 

@@ -1,14 +1,14 @@
 -- `put_listing` meets its contract: its parts one behind another. Assumes nothing.
 use Prim.Native.Nat.{_+_}
 use mathlib.Core.List.{_++_, append-assoc}
-use denote.Ref.{now}
 use native.Mathlib.Omega.{arith}
-use Rattle.models.specs.Bytes.{bytes}
+use borrow.Author.Needs.{needs}
+use denote.Ref.{now}
+use Rattle.ground.specs.Bytes.{bytes}
 use Rattle.writing.specs.Writing.{unfilled}
 use Rattle.writing.proofs.Putting.{put-then, put-is}
 use Rattle.machine.specs.Rows.{rowOf}
 use Rattle.listing.specs.Printed.{namesLine, numberLine, rowLines, outLine}
-use borrow.Author.Needs.{needs}
 use Rattle.listing.proofs.print.put_listing.Statement.{statement}
 use Rattle.listing.proofs.print.put_listing.Tie as tie
 

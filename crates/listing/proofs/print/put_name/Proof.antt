@@ -1,11 +1,11 @@
 -- `put_name` meets its contract. Assumes nothing.
 use mathlib.Core.Path.{_≡_, sym}
 use native.Mathlib.Omega.{arith}
+use borrow.Author.Needs.{needs}
 use lib.ListN.{length}
 use lib.Seq.{length-take-le}
 use Rattle.writing.proofs.Putting.{put-is}
 use Rattle.listing.proofs.Printing.{name-found}
-use borrow.Author.Needs.{needs}
 use Rattle.listing.proofs.print.put_name.Statement.{statement}
 use Rattle.listing.proofs.print.put_name.Tie as tie
 

@@ -3,13 +3,13 @@ use Prim.Native.Nat.{ℕ}
 use mathlib.Core.Path.{ap₂}
 use mathlib.Core.List.{[], _∷_, _++_}
 use native.Mathlib.Omega.{arith}
+use borrow.Author.Needs.{needs}
 use lib.ListN.{length-append}
-use Rattle.models.specs.Bytes.{bytes}
+use Rattle.ground.specs.Bytes.{bytes}
 use Rattle.writing.proofs.Putting.{put-then, put-is}
 use Rattle.listing.specs.Decimal.{decimal}
 use Rattle.listing.specs.Printed.{numberLine}
 use Rattle.listing.proofs.Decimals.{length-digits}
-use borrow.Author.Needs.{needs}
 use Rattle.listing.proofs.print.put_refusal.Statement.{statement}
 use Rattle.listing.proofs.print.put_refusal.Tie as tie
 

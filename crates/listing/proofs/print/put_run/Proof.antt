@@ -1,15 +1,15 @@
 -- `put_run` meets its contract: its parts one behind another. Assumes nothing.
 use mathlib.Core.List.{[], _∷_}
 use native.Mathlib.Omega.{arith}
-use lib.ListN.{length-append}
-use Rattle.listing.specs.Decimal.{decimal}
+use borrow.Author.Needs.{needs}
 use denote.Ref.{now}
-use Rattle.models.specs.Bytes.{bytes}
+use lib.ListN.{length-append}
+use Rattle.ground.specs.Bytes.{bytes}
+use Rattle.listing.specs.Decimal.{decimal}
 use Rattle.writing.proofs.Putting.{put-then, put-is}
 use Rattle.listing.specs.Printed.{numberLine}
 use Rattle.listing.proofs.Decimals.{length-digits}
 use Rattle.listing.proofs.Printing.{as-out}
-use borrow.Author.Needs.{needs}
 use Rattle.listing.proofs.print.put_run.Statement.{statement}
 use Rattle.listing.proofs.print.put_run.Tie as tie
 

@@ -1,14 +1,13 @@
 -- `put_state` meets its contract: after so many letters their lines stand there. Assumes nothing.
-use Prim.Native.Nat.{ℕ, _+_, _-_, _*_, _≤_, _<_}
-use mathlib.Core.Path.{_≡_, refl, sym, ap, _∙_}
+use Prim.Native.Nat.{_+_, _-_, _*_, _≤_}
+use mathlib.Core.Path.{_≡_, refl, ap, _∙_}
 use native.Mathlib.Omega.{arith}
-use borrow.Author.Needs.{needs}
 use denote.Ref.{now}
-use lib.ListN.{length, getD}
+use lib.ListN.{length}
 use Rattle.writing.specs.Writing.{Put}
-use Rattle.writing.proofs.Putting.{put-then, put-is, nothing-put}
-use Rattle.machine.specs.Rows.{decoded, rowOf}
-use Rattle.listing.specs.Printed.{stepLine, stateLines}
+use Rattle.writing.proofs.Putting.{put-is}
+use Rattle.machine.specs.Rows.{rowOf}
+use Rattle.listing.specs.Printed.{stateLines}
 use Rattle.listing.proofs.Printing.{no-steps, one-step-more}
 use Rattle.listing.proofs.print.put_state.Statement.{statement}
 use Rattle.listing.proofs.print.put_state.Tie as tie

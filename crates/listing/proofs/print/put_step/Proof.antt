@@ -1,12 +1,12 @@
 -- `put_step` meets its contract: its parts one behind another. Assumes nothing.
 use mathlib.Core.List.{[], _∷_}
 use native.Mathlib.Omega.{arith}
+use borrow.Author.Needs.{needs}
 use lib.ListN.{length-append}
 use Rattle.writing.proofs.Putting.{put-then, put-is}
 use Rattle.listing.specs.Decimal.{decimal}
 use Rattle.listing.proofs.Decimals.{length-digits}
 use Rattle.listing.proofs.Printing.{step-text}
-use borrow.Author.Needs.{needs}
 use Rattle.listing.proofs.print.put_step.Statement.{statement}
 use Rattle.listing.proofs.print.put_step.Tie as tie
 

@@ -2,11 +2,11 @@
 use mathlib.Core.Path.{sym, ap}
 use mathlib.Core.List.{_++_}
 use native.Mathlib.Omega.{arith}
+use borrow.Author.Needs.{needs}
+use Rattle.ground.specs.Bytes.{bytes}
 use Rattle.rule.specs.declared.way.Way.{Way}
-use Rattle.models.specs.Bytes.{bytes}
 use Rattle.writing.proofs.Putting.{put-is}
 use Rattle.listing.specs.Printed.{wayWord}
-use borrow.Author.Needs.{needs}
 use Rattle.listing.proofs.print.put_way.Statement.{statement}
 use Rattle.listing.proofs.print.put_way.Tie as tie
 

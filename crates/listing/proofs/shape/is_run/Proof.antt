@@ -1,18 +1,17 @@
 -- `is_run` meets its contract. Assumes nothing.
+use Prim.Native.Nat.{ℕ, _-_, _≤_}
 use mathlib.Core.Path.{_≡_, sym, ap, ap₂, _∙_}
 use mathlib.Core.Bool.{Bool, true, false, _&&_}
 use mathlib.Core.List.{List}
-use Prim.Native.Nat.{ℕ, _-_, _≤_}
 use native.Mathlib.Omega.{arith}
 use borrow.Author.Tests.{le-leb, lt-leb}
+use borrow.Author.Needs.{needs}
 use denote.Ref.{now}
-use lib.Dec.{leb, eqb}
+use lib.Dec.{eqb}
 use lib.ListN.{length, getD, take}
 use lib.Seq.{length-take-le}
-use Rattle.models.specs.Bytes.{bytes}
-use Rattle.models.specs.Reading.{sameBytes}
+use Rattle.ground.specs.Bytes.{bytes, sameBytes}
 use Rattle.listing.specs.Shape.{isRun}
-use borrow.Author.Needs.{needs}
 use Rattle.listing.proofs.shape.is_run.Statement.{statement}
 use Rattle.listing.proofs.shape.is_run.Tie as tie
 

@@ -1,14 +1,14 @@
 -- `line_end` meets its contract. Assumes nothing.
-use Prim.Native.Nat.{ℕ, zero, _+_}
-use mathlib.Core.Path.{_≡_, ap, _∙_}
+use Prim.Native.Nat.{ℕ, _+_}
+use mathlib.Core.Path.{_≡_, ap}
 use mathlib.Core.List.{List}
 use native.Mathlib.Omega.{arith}
+use borrow.Author.Needs.{needs}
 use denote.Ref.{now}
-use lib.ListN.{length, take}
+use lib.ListN.{length}
 use lib.Seq.{take-length}
 use Rattle.bytes.specs.Bytes.{indexOf, slice}
 use Rattle.listing.proofs.Lines.{line-ends, line-endless}
-use borrow.Author.Needs.{needs}
 use Rattle.listing.proofs.shape.line_end.Statement.{statement}
 use Rattle.listing.proofs.shape.line_end.Tie as tie
 

@@ -1,11 +1,10 @@
 -- `look` meets its contract. Assumes nothing.
-use mathlib.Core.Path.{_≡_, sym, subst, _∙_}
+use mathlib.Core.Path.{sym, subst, _∙_}
+use borrow.Author.Needs.{needs}
 use denote.Ref.{now}
 use lib.Seq.{length-take-le}
-use Rattle.listing.specs.declared.shape.Found.{Found}
 use Rattle.listing.specs.Finding.{LineEnd}
 use Rattle.listing.proofs.Lines.{line-last, line-more}
-use borrow.Author.Needs.{needs}
 use Rattle.listing.proofs.shape.look.Statement.{statement}
 use Rattle.listing.proofs.shape.look.Tie as tie
 

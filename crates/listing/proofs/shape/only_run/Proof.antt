@@ -1,9 +1,9 @@
 -- `only_run` meets its contract. Assumes nothing.
 use mathlib.Core.Path.{subst}
+use borrow.Author.Needs.{needs}
 use denote.Ref.{now}
 use Rattle.listing.specs.Finding.{LineEnd}
 use Rattle.listing.proofs.Endings.{run-alone, run-and-more}
-use borrow.Author.Needs.{needs}
 use Rattle.listing.proofs.shape.only_run.Statement.{statement}
 use Rattle.listing.proofs.shape.only_run.Tie as tie
 

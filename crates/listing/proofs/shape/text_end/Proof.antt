@@ -1,11 +1,11 @@
 -- `text_end` meets its contract: the lines passed belong to the text. Assumes nothing.
-use mathlib.Core.Path.{_≡_, sym, ap, subst, _∙_}
 use Prim.Native.Nat.{ℕ, _-_, _≤_}
+use mathlib.Core.Path.{_≡_, ap, subst}
+use mathlib.Core.List.{List}
+use mathlib.Core.Option.{none}
 use native.Mathlib.Omega.{arith}
 use borrow.Author.Needs.{needs}
 use denote.Ref.{now}
-use mathlib.Core.List.{List}
-use mathlib.Core.Option.{none}
 use lib.ListN.{length, take, drop, length-drop, drop-of-length-le}
 use Rattle.listing.specs.declared.shape.Looked.{Looked}
 use Rattle.listing.specs.Shape.{lines, through}

@@ -1,29 +1,27 @@
 -- `way_in` meets its contract. Assumes nothing.
-use mathlib.Core.Path.{_≡_, sym, ap, ap₂, _∙_}
-use mathlib.Core.Bool.{Bool, true, false}
-use mathlib.Core.List.{List}
 use Prim.Native.Nat.{ℕ}
+use mathlib.Core.Path.{_≡_, sym, ap, ap₂, _∙_}
+use mathlib.Core.Bool.{Bool, true, false, cond}
+use mathlib.Core.List.{List}
+use borrow.Author.Needs.{needs}
 use denote.Ref.{now}
-use Rattle.tables.specs.Table.{choose}
+use Rattle.ground.specs.Bytes.{bytes, sameBytes}
 use Rattle.rule.specs.declared.way.Way.{Way}
-use Rattle.models.specs.Bytes.{bytes}
-use Rattle.models.specs.Reading.{sameBytes}
 use Rattle.runs.specs.declared.WayRead.{WayRead}
 use Rattle.listing.specs.Shape.{wayIn}
-use borrow.Author.Needs.{needs}
 use Rattle.listing.proofs.shape.way_in.Statement.{statement}
 use Rattle.listing.proofs.shape.way_in.Tie as tie
 
 module _ (x : List ℕ) where
   first : sameBytes x (bytes "way full\n") ≡ true → WayRead.Is Way.Full ≡ wayIn x
-  first e = sym (ap (λ (q : Bool). choose q (WayRead.Is Way.Full) (choose (sameBytes x (bytes "way sparing\n")) (WayRead.Is Way.Sparing) WayRead.Nothing)) e)
+  first e = sym (ap (λ (q : Bool). cond q (WayRead.Is Way.Full) (cond (sameBytes x (bytes "way sparing\n")) (WayRead.Is Way.Sparing) WayRead.Nothing)) e)
 
   module _ (e : sameBytes x (bytes "way full\n") ≡ false) where
     second : sameBytes x (bytes "way sparing\n") ≡ true → WayRead.Is Way.Sparing ≡ wayIn x
-    second h = sym (ap₂ (λ (p q : Bool). choose p (WayRead.Is Way.Full) (choose q (WayRead.Is Way.Sparing) WayRead.Nothing)) e h)
+    second h = sym (ap₂ (λ (p q : Bool). cond p (WayRead.Is Way.Full) (cond q (WayRead.Is Way.Sparing) WayRead.Nothing)) e h)
 
     neither : sameBytes x (bytes "way sparing\n") ≡ false → WayRead.Nothing ≡ wayIn x
-    neither h = sym (ap₂ (λ (p q : Bool). choose p (WayRead.Is Way.Full) (choose q (WayRead.Is Way.Sparing) WayRead.Nothing)) e h)
+    neither h = sym (ap₂ (λ (p q : Bool). cond p (WayRead.Is Way.Full) (cond q (WayRead.Is Way.Sparing) WayRead.Nothing)) e h)
 
 slice-aggregate-same : tie.Need-slice-aggregate-same
 slice-aggregate-same c = search needs

@@ -2,10 +2,6 @@ use borrow.Author.Needs.{needs}
 use Rattle.machine.proofs.Breadth.{fresh-placed}
 use Rattle.machine.proofs.explore.begin.Statement.{statement}
 use Rattle.machine.proofs.explore.begin.Tie as tie
-use Rattle.machine.proofs.explore.begin.Reads as reads
-use Rattle.machine.proofs.explore.begin.Lts as lts
-use Rattle.machine.proofs.index.place.Reads as place-reads
-use Rattle.rule.proofs.situation.Situation.fresh.Reads as fresh-reads
 
 fresh-requires : tie.Need-fresh-requires
 fresh-requires c κs = search needs

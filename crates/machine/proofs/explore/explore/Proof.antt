@@ -4,10 +4,6 @@ use Rattle.machine.proofs.Breadth.{explored-start}
 use Rattle.machine.proofs.Zeros.{new-index}
 use Rattle.machine.proofs.explore.explore.Statement.{statement}
 use Rattle.machine.proofs.explore.explore.Tie as tie
-use Rattle.machine.proofs.explore.explore.Reads as reads
-use Rattle.machine.proofs.explore.explore.Lts as lts
-use Rattle.machine.proofs.explore.begin.Reads as begin-reads
-use Rattle.machine.proofs.explore.explore_all.Reads as explore-all-reads
 
 slice-aggregate-begin : tie.Need-slice-aggregate-begin
 slice-aggregate-begin c = search needs

@@ -1,14 +1,11 @@
-use borrow.Author.Needs.{needs}
 use Prim.Native.Nat.{_-_}
+use borrow.Author.Needs.{needs}
 use Rattle.machine.specs.Index.{capacity}
 use Rattle.machine.specs.Shim.{shimOf}
 use Rattle.machine.specs.Explore.{Explored}
 use Rattle.machine.proofs.Breadth.{over, explored-next, explored-end}
 use Rattle.machine.proofs.explore.explore_all.Statement.{statement}
 use Rattle.machine.proofs.explore.explore_all.Tie as tie
-use Rattle.machine.proofs.explore.explore_all.Reads as reads
-use Rattle.machine.proofs.explore.explore_all.Lts as lts
-use Rattle.machine.proofs.explore.explore_row.Reads as explore-row-reads
 
 abbrev Inv-loop : tie.InvT-loop
 Inv-loop way up ups target fences pairs₀ links₀ table₀ count₀ i₀ pairs links table count i =

@@ -1,5 +1,5 @@
-use native.Mathlib.Omega.{arith}
 use mathlib.Core.Path.{sym, _∙_, ap}
+use native.Mathlib.Omega.{arith}
 use borrow.Author.Needs.{needs}
 use denote.Ref.{now}
 use Rattle.machine.specs.Shim.{meant}
@@ -8,11 +8,6 @@ use Rattle.machine.proofs.Letters.{answered-step, letter-output}
 use Rattle.machine.proofs.Exploration.{output-byte, explored-refused, explored-stored}
 use Rattle.machine.proofs.explore.explore_letter.Statement.{statement}
 use Rattle.machine.proofs.explore.explore_letter.Tie as tie
-use Rattle.machine.proofs.explore.explore_letter.Reads as reads
-use Rattle.machine.proofs.explore.explore_letter.Lts as lts
-use Rattle.machine.proofs.explore.situation_at.Reads as situation-at-reads
-use Rattle.machine.proofs.explore.store.Reads as store-reads
-use Rattle.machine.proofs.step.answer.Reads as answer-reads
 
 situation-at-requires : tie.Need-situation-at-requires
 situation-at-requires c κs = search needs

@@ -1,13 +1,10 @@
-use borrow.Author.Needs.{needs}
 use Prim.Native.Nat.{_+_, _-_}
+use borrow.Author.Needs.{needs}
 use lib.ListN.{length}
 use Rattle.machine.specs.Shim.{shimOf}
 use Rattle.machine.proofs.Breadth.{over, Rowing, rowing-start, rowing-next, rowing-end}
 use Rattle.machine.proofs.explore.explore_row.Statement.{statement}
 use Rattle.machine.proofs.explore.explore_row.Tie as tie
-use Rattle.machine.proofs.explore.explore_row.Reads as reads
-use Rattle.machine.proofs.explore.explore_row.Lts as lts
-use Rattle.machine.proofs.explore.explore_letter.Reads as explore-letter-reads
 
 abbrev Inv-loop : tie.InvT-loop
 Inv-loop way up ups target fences pairs₀ links₀ table₀ began i count₀ a₀ pairs links table count a =

@@ -1,14 +1,10 @@
-use native.Mathlib.Omega.{arith}
 use mathlib.Core.Path.{refl}
+use native.Mathlib.Omega.{arith}
 use borrow.Author.Needs.{needs}
 use Rattle.machine.specs.Explore.{stored, unstored}
 use Rattle.machine.proofs.Naming.{placed-low}
 use Rattle.machine.proofs.explore.store.Statement.{statement}
 use Rattle.machine.proofs.explore.store.Tie as tie
-use Rattle.machine.proofs.explore.store.Reads as reads
-use Rattle.machine.proofs.explore.store.Lts as lts
-use Rattle.machine.proofs.index.place.Reads as place-reads
-use Rattle.machine.proofs.refine.larger.Reads as larger-reads
 
 place-requires : tie.Need-place-requires
 place-requires c κs = search needs

@@ -1,14 +1,9 @@
-use borrow.Author.Needs.{needs}
-use native.Mathlib.Omega.{arith}
 use mathlib.Core.Path.{refl}
+use native.Mathlib.Omega.{arith}
+use borrow.Author.Needs.{needs}
 use Rattle.machine.proofs.Links.{Seeking, seek-start, seek-next, seek-end, seek-less}
 use Rattle.machine.proofs.index.find.Statement.{statement}
 use Rattle.machine.proofs.index.find.Tie as tie
-use Rattle.machine.proofs.index.find.Reads as reads
-use Rattle.machine.proofs.index.find.Lts as lts
-use Rattle.machine.proofs.index.bucket.Reads as bucket-reads
-use Rattle.machine.proofs.index.holds.Reads as holds-reads
-use Rattle.machine.proofs.index.wide.Reads as wide-reads
 
 abbrev Inv-loop : tie.InvT-loop
 Inv-loop pairs links count need low cursor₀ cursor = Seeking pairs links count need low cursor

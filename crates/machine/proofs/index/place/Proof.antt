@@ -1,13 +1,9 @@
-use native.Mathlib.Omega.{arith}
 use mathlib.Core.Path.{refl}
+use native.Mathlib.Omega.{arith}
 use borrow.Author.Needs.{needs}
 use Rattle.machine.specs.Index.{known, added, full}
 use Rattle.machine.proofs.index.place.Statement.{statement}
 use Rattle.machine.proofs.index.place.Tie as tie
-use Rattle.machine.proofs.index.place.Reads as reads
-use Rattle.machine.proofs.index.place.Lts as lts
-use Rattle.machine.proofs.index.find.Reads as find-reads
-use Rattle.machine.proofs.index.push.Reads as push-reads
 
 find-requires : tie.Need-find-requires
 find-requires c κs = search needs

@@ -4,9 +4,6 @@ use lib.ListN.{length-set}
 use Rattle.machine.proofs.Links.{pushed}
 use Rattle.machine.proofs.index.push.Statement.{statement}
 use Rattle.machine.proofs.index.push.Tie as tie
-use Rattle.machine.proofs.index.push.Reads as reads
-use Rattle.machine.proofs.index.push.Lts as lts
-use Rattle.machine.proofs.index.bucket.Reads as bucket-reads
 
 bucket-requires : tie.Need-bucket-requires
 bucket-requires c κs = search needs

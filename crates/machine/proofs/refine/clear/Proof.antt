@@ -1,14 +1,12 @@
-use borrow.Author.Needs.{needs}
-use native.Mathlib.Omega.{arith}
-use mathlib.Core.Path.{_≡_}
 use Prim.Native.Nat.{_-_, _≤_}
+use mathlib.Core.Path.{_≡_}
 use mathlib.Core.List.{_++_}
+use native.Mathlib.Omega.{arith}
+use borrow.Author.Needs.{needs}
 use lib.ListN.{length, drop, replicate, length-set}
 use Rattle.machine.proofs.Filled.{filled, filled-more}
 use Rattle.machine.proofs.refine.clear.Statement.{statement}
 use Rattle.machine.proofs.refine.clear.Tie as tie
-use Rattle.machine.proofs.refine.clear.Reads as reads
-use Rattle.machine.proofs.refine.clear.Lts as lts
 
 abbrev Inv-loop : tie.InvT-loop
 Inv-loop links₀ b₀ links b = (b ≤ length links₀) × (length links ≡ length links₀) × (links ≡ replicate b 0 ++ drop b links₀)

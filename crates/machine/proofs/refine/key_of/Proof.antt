@@ -1,11 +1,6 @@
 use borrow.Author.Needs.{needs}
 use Rattle.machine.proofs.refine.key_of.Statement.{statement}
 use Rattle.machine.proofs.refine.key_of.Tie as tie
-use Rattle.machine.proofs.refine.key_of.Reads as reads
-use Rattle.machine.proofs.refine.key_of.Lts as lts
-use Rattle.machine.proofs.refine.shown.Reads as shown-reads
-use Rattle.machine.proofs.refine.wide_class.Reads as wide-class-reads
-use Rattle.machine.proofs.refine.wide_word.Reads as wide-word-reads
 
 mul-wide-word : tie.Need-mul-wide-word
 mul-wide-word c = search needs

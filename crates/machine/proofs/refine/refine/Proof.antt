@@ -1,13 +1,10 @@
-use borrow.Author.Needs.{needs}
 use Prim.Native.Nat.{ℕ, _-_}
+use borrow.Author.Needs.{needs}
 use lib.ListN.{length-replicate}
 use Rattle.machine.proofs.Rounds.{Refining, refining-start, refining-crowd, refining-end, refining-less, refining-next, scratch-kept}
 use Rattle.machine.proofs.Zeros.{new-scratch}
 use Rattle.machine.proofs.refine.refine.Statement.{statement}
 use Rattle.machine.proofs.refine.refine.Tie as tie
-use Rattle.machine.proofs.refine.refine.Reads as reads
-use Rattle.machine.proofs.refine.refine.Lts as lts
-use Rattle.machine.proofs.refine.split_all.Reads as split-all-reads
 
 abbrev Inv-loop : tie.InvT-loop
 Inv-loop table classes₀ k letters finer₀ pairs₀ links₀ count₀ classes finer pairs links count =

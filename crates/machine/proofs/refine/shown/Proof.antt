@@ -3,9 +3,6 @@ use borrow.Author.Needs.{needs}
 use borrow.Author.Tests.{lt-ltb, le-ltb}
 use Rattle.machine.proofs.refine.shown.Statement.{statement}
 use Rattle.machine.proofs.refine.shown.Tie as tie
-use Rattle.machine.proofs.refine.shown.Reads as reads
-use Rattle.machine.proofs.refine.shown.Lts as lts
-use Rattle.machine.proofs.refine.wide_class.Reads as wide-class-reads
 
 returns : tie.Need-returns
 returns c = (simp (lt-ltb _ _ (c .if1 .taken)), omega arith)

@@ -1,12 +1,8 @@
-use borrow.Author.Needs.{needs}
 use Prim.Native.Nat.{_-_}
+use borrow.Author.Needs.{needs}
 use Rattle.machine.proofs.Rounds.{Going, going-start, going-next, going-crowd, going-end, scratch-kept}
 use Rattle.machine.proofs.refine.split_all.Statement.{statement}
 use Rattle.machine.proofs.refine.split_all.Tie as tie
-use Rattle.machine.proofs.refine.split_all.Reads as reads
-use Rattle.machine.proofs.refine.split_all.Lts as lts
-use Rattle.bytes.proofs.copy.Reads as copy-reads
-use Rattle.machine.proofs.refine.split_by.Reads as split-by-reads
 
 abbrev Inv-loop : tie.InvT-loop
 Inv-loop table classes₀ finer₀ pairs₀ links₀ k letters began count₀ a₀ classes finer pairs links count a =

@@ -1,16 +1,10 @@
-use borrow.Author.Needs.{needs}
-use native.Mathlib.Omega.{arith}
 use Prim.Native.Nat.{_-_}
+use native.Mathlib.Omega.{arith}
+use borrow.Author.Needs.{needs}
 use Rattle.machine.specs.Words.{key}
 use Rattle.machine.proofs.Naming.{placed-low, Splitting, splitting-start, splitting-next, splitting-crowded, splitting-end}
 use Rattle.machine.proofs.refine.split_by.Statement.{statement}
 use Rattle.machine.proofs.refine.split_by.Tie as tie
-use Rattle.machine.proofs.refine.split_by.Reads as reads
-use Rattle.machine.proofs.refine.split_by.Lts as lts
-use Rattle.machine.proofs.index.place.Reads as place-reads
-use Rattle.machine.proofs.refine.clear.Reads as clear-reads
-use Rattle.machine.proofs.refine.key_of.Reads as key-of-reads
-use Rattle.machine.proofs.refine.larger.Reads as larger-reads
 
 abbrev Inv-loop : tie.InvT-loop
 Inv-loop table classes finer₀ pairs₀ links₀ k a count₀ i₀ finer pairs links count i =

@@ -3,10 +3,6 @@ use borrow.Author.Tests.{lt-ltb, le-ltb}
 use Rattle.machine.proofs.Entries.{narrow-at}
 use Rattle.machine.proofs.rows.state_entry.Statement.{statement}
 use Rattle.machine.proofs.rows.state_entry.Tie as tie
-use Rattle.machine.proofs.rows.state_entry.Reads as reads
-use Rattle.machine.proofs.rows.state_entry.Lts as lts
-use Rattle.machine.proofs.refine.wide_word.Reads as wide-word-reads
-use Rattle.machine.proofs.rows.state_word.Reads as state-word-reads
 
 returns : tie.Need-returns
 returns c = simp (le-ltb _ _ (c .if1 .taken))

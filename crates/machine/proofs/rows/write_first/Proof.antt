@@ -3,10 +3,6 @@ use borrow.Author.Needs.{needs}
 use Rattle.machine.specs.Rows.{later, first}
 use Rattle.machine.proofs.rows.write_first.Statement.{statement}
 use Rattle.machine.proofs.rows.write_first.Tie as tie
-use Rattle.machine.proofs.rows.write_first.Reads as reads
-use Rattle.machine.proofs.rows.write_first.Lts as lts
-use Rattle.machine.proofs.refine.wide_class.Reads as wide-class-reads
-use Rattle.machine.proofs.rows.write_row.Reads as write-row-reads
 
 shared-slice-read-wide-class : tie.Need-shared-slice-read-wide-class
 shared-slice-read-wide-class c = search needs

@@ -1,14 +1,11 @@
-use borrow.Author.Needs.{needs}
-use native.Mathlib.Omega.{arith}
 use Prim.Native.Nat.{_-_, _≤_}
-use Rattle.machine.specs.Words.{stride}
+use native.Mathlib.Omega.{arith}
+use borrow.Author.Needs.{needs}
+use Rattle.operations.specs.Alphabet.{stride}
 use Rattle.machine.specs.Rows.{stateEntry, RowWritten}
 use Rattle.machine.proofs.Entries.{row-start, row-next, row-end}
 use Rattle.machine.proofs.rows.write_row.Statement.{statement}
 use Rattle.machine.proofs.rows.write_row.Tie as tie
-use Rattle.machine.proofs.rows.write_row.Reads as reads
-use Rattle.machine.proofs.rows.write_row.Lts as lts
-use Rattle.machine.proofs.rows.state_entry.Reads as state-entry-reads
 
 abbrev Inv-loop : tie.InvT-loop
 Inv-loop table classes rows₀ letters i q a₀ rows a = RowWritten rows₀ q (stateEntry table classes letters i) a rows × (a ≤ stride)

@@ -1,15 +1,12 @@
-use borrow.Author.Needs.{needs}
-use native.Mathlib.Omega.{arith}
 use Prim.Native.Nat.{_-_}
+use native.Mathlib.Omega.{arith}
+use borrow.Author.Needs.{needs}
+use Rattle.ground.specs.Bytes.{at}
 use Rattle.mealy.specs.Classes.{Numbering}
-use Rattle.machine.specs.Words.{at}
 use Rattle.machine.specs.Rows.{stateEntry}
 use Rattle.machine.proofs.Firsts.{Writing, writing-start, writing-next, writing-room, writing-end}
 use Rattle.machine.proofs.rows.write_rows.Statement.{statement}
 use Rattle.machine.proofs.rows.write_rows.Tie as tie
-use Rattle.machine.proofs.rows.write_rows.Reads as reads
-use Rattle.machine.proofs.rows.write_rows.Lts as lts
-use Rattle.machine.proofs.rows.write_first.Reads as write-first-reads
 
 abbrev Inv-loop : tie.InvT-loop
 Inv-loop table classes rows₀ letters k n q₀ i₀ rows q i = (x : Numbering k (at classes) n) → Writing x (stateEntry table classes letters) rows₀ rows q i

@@ -3,13 +3,6 @@ use borrow.Author.Needs.{needs}
 use borrow.Author.Tests.{lt-ltb, le-ltb}
 use Rattle.machine.proofs.step.answer.Statement.{statement}
 use Rattle.machine.proofs.step.answer.Tie as tie
-use Rattle.machine.proofs.step.answer.Reads as reads
-use Rattle.machine.proofs.step.answer.Lts as lts
-use Rattle.machine.proofs.step.kind_of.Reads as kind-of-reads
-use Rattle.machine.proofs.step.put_before.Reads as put-before-reads
-use Rattle.rule.proofs.situation.Situation.asks.Reads as asks-reads
-use Rattle.rule.proofs.way.fence_table.Reads as fence-table-reads
-use Rattle.rule.proofs.way.take.Reads as take-reads
 
 kind-of-requires : tie.Need-kind-of-requires
 kind-of-requires c κs = search needs

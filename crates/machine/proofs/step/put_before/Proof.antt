@@ -1,8 +1,6 @@
 use borrow.Author.Needs.{needs}
 use Rattle.machine.proofs.step.put_before.Statement.{statement}
 use Rattle.machine.proofs.step.put_before.Tie as tie
-use Rattle.machine.proofs.step.put_before.Reads as reads
-use Rattle.machine.proofs.step.put_before.Lts as lts
 
 enum-known-step : tie.Need-enum-known-step
 enum-known-step c = search needs

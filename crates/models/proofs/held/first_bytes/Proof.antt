@@ -1,10 +1,10 @@
 -- `first_bytes` meets its contract: after i turns the first i bytes are there, and zeros behind them. Assumes nothing.
-use borrow.Author.Needs.{needs}
+use Prim.Native.Nat.{ℕ, _+_, _-_, _≤_}
 use mathlib.Core.Path.{_≡_, refl, sym, ap, _∙_}
-use Prim.Native.Nat.{ℕ, _+_, _-_, _≤_, _<_}
-use native.Mathlib.Omega.{arith}
-use denote.Ref.{now}
 use mathlib.Core.List.{List, _++_}
+use native.Mathlib.Omega.{arith}
+use borrow.Author.Needs.{needs}
+use denote.Ref.{now}
 use lib.ListN.{length, getD, take, set, replicate}
 use lib.Seq.{take-all}
 use Rattle.models.proofs.Taken.{name-more, name-done}

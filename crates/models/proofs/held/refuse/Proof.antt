@@ -1,11 +1,9 @@
 -- `refuse` meets its contract. Assumes nothing.
 use Rattle.models.specs.declared.model.Model.{Model}
-use Rattle.models.specs.declared.model.Verdict.{Verdict}
+use Rattle.answers.specs.declared.Verdict.{Verdict}
 -- `refuse` meets its contract. Assumes nothing.
-use mathlib.Core.Path.{_≡_, refl, sym, ap, _∙_}
-use Prim.Native.Nat.{ℕ, _+_, _-_, _≤_, _<_}
-use native.Mathlib.Omega.{arith}
-use lib.ListN.{length, getD, take, drop}
+use mathlib.Core.Path.{ap}
+use Prim.Native.Nat.{_-_}
 use borrow.Author.Needs.{needs}
 use Rattle.models.proofs.held.refuse.Statement.{statement}
 use Rattle.models.proofs.held.refuse.Tie as tie

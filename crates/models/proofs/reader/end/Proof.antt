@@ -1,9 +1,9 @@
 -- `end` meets its contract. Assumes nothing.
+use mathlib.Core.Path.{_∙_}
 use borrow.Author.Tests.{eq-eqb, ne-eqb}
-use mathlib.Core.Path.{_≡_, sym, ap, _∙_}
+use borrow.Author.Needs.{needs}
 use Rattle.models.specs.Reading.{ended}
 use Rattle.models.proofs.Steps.{step-stuck, step-next}
-use borrow.Author.Needs.{needs}
 use Rattle.models.proofs.reader.end.Statement.{statement}
 use Rattle.models.proofs.reader.end.Tie as tie
 

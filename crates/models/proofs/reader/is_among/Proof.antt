@@ -5,10 +5,11 @@ use Rattle.models.specs.declared.model.Name.{Name}
 -- `is_among` meets its contract. Assumes nothing.
 use borrow.Author.Needs.{needs}
 use mathlib.Core.Path.{_≡_, refl, sym, ap, _∙_}
-use Prim.Native.Nat.{ℕ, _+_, _-_, _≤_, _<_}
+use Prim.Native.Nat.{_-_, _≤_, _<_}
 use native.Mathlib.Omega.{arith}
 use lib.ListN.{length, getD, take, drop}
-use Rattle.models.specs.Reading.{sameBytes, among}
+use Rattle.ground.specs.Bytes.{sameBytes}
+use Rattle.models.specs.Reading.{among}
 use Rattle.models.proofs.Taken.{among-here, among-more, among-done}
 use Rattle.models.proofs.reader.is_among.Statement.{statement}
 use Rattle.models.proofs.reader.is_among.Tie as tie

@@ -1,14 +1,14 @@
 -- `lines` meets its contract: the whole is what follows from here. Assumes nothing.
-use denote.Ref.{now}
-use mathlib.Core.Path.{_≡_, refl, sym, ap, _∙_}
 use Prim.Native.Nat.{_+_, _-_}
+use mathlib.Core.Path.{_≡_, refl, sym, ap, _∙_}
 use native.Mathlib.Omega.{arith}
+use borrow.Author.Needs.{needs}
+use denote.Ref.{now}
 use Rattle.models.specs.declared.scan.Line.{Line}
 use Rattle.models.specs.declared.model.Reading.{Reading}
 use Rattle.models.specs.declared.reader.Progress.{Progress}
 use Rattle.models.specs.Reading.{tableIn, fenceFrom, linesFrom}
 use Rattle.models.proofs.Steps.{line-stuck, line-next, lines-last, lines-end, lines-fence, fence-name, fence-stored}
-use borrow.Author.Needs.{needs}
 use Rattle.models.proofs.reader.lines.Statement.{statement}
 use Rattle.models.proofs.reader.lines.Tie as tie
 

@@ -1,15 +1,15 @@
 -- `name_in` meets its contract. Assumes nothing.
-use mathlib.Core.Path.{_≡_, ap, _∙_}
 use Prim.Native.Nat.{ℕ, _-_}
-use native.Mathlib.Omega.{arith}
-use denote.Ref.{now}
+use mathlib.Core.Path.{_≡_, ap, _∙_}
 use mathlib.Core.List.{List}
+use native.Mathlib.Omega.{arith}
+use borrow.Author.Needs.{needs}
+use denote.Ref.{now}
 use lib.ListN.{take, drop}
 use lib.Seq.{take-all, length-take-le}
 use Rattle.models.specs.Scan.{nameRun}
 use Rattle.models.specs.Reading.{filled, nameIn}
 use Rattle.models.proofs.NamePart.{run-few, run-within}
-use borrow.Author.Needs.{needs}
 use Rattle.models.proofs.reader.name_in.Statement.{statement}
 use Rattle.models.proofs.reader.name_in.Tie as tie
 

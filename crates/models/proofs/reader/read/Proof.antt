@@ -1,12 +1,12 @@
 -- `read` meets its contract. Assumes nothing.
 use mathlib.Core.Path.{_≡_, sym, ap, ap₂, _∙_}
+use borrow.Author.Needs.{needs}
 use denote.Ref.{now}
 use lib.ListN.{drop}
 use Rattle.models.specs.declared.model.Model.{Model}
 use Rattle.models.specs.Reading.{nameIn, tableIn, bare, linesFrom}
 use Rattle.models.proofs.Words.{meets}
 use Rattle.models.proofs.Steps.{line-stuck, line-next, reading-over, reading-within, afterHead, head-name}
-use borrow.Author.Needs.{needs}
 use Rattle.models.proofs.reader.read.Statement.{statement}
 use Rattle.models.proofs.reader.read.Tie as tie
 

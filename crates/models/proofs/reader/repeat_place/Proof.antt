@@ -1,6 +1,6 @@
 -- `repeat_place` meets its contract. Assumes nothing.
+use mathlib.Core.Path.{sym, _∙_}
 use borrow.Author.Tests.{eq-eqb, ne-eqb}
-use mathlib.Core.Path.{_≡_, sym, _∙_}
 use borrow.Author.Needs.{needs}
 use Rattle.models.proofs.reader.repeat_place.Statement.{statement}
 use Rattle.models.proofs.reader.repeat_place.Tie as tie

@@ -1,11 +1,11 @@
 -- `rest` meets its contract. Assumes nothing.
-use mathlib.Core.Path.{sym, ap, _∙_}
 use Prim.Native.Nat.{_-_}
+use mathlib.Core.Path.{sym, ap, _∙_}
 use native.Mathlib.Omega.{arith}
+use borrow.Author.Needs.{needs}
 use denote.Ref.{now}
 use lib.ListN.{length, take, drop, length-drop, drop-of-length-le}
 use lib.Seq.{take-all, take-nil}
-use borrow.Author.Needs.{needs}
 use Rattle.models.proofs.reader.rest.Statement.{statement}
 use Rattle.models.proofs.reader.rest.Tie as tie
 

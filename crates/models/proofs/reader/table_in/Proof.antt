@@ -4,10 +4,10 @@ use mathlib.Core.Path.{ap}
 use lib.ListN.{length-set}
 -- `table_in` meets its contract. Assumes nothing.
 use borrow.Author.Needs.{needs}
-use mathlib.Core.Path.{_≡_, refl, sym, _∙_}
+use mathlib.Core.Path.{_≡_, _∙_}
 use Prim.Native.Nat.{ℕ, _+_, _-_, _/_, _≤_, _<_}
 use native.Mathlib.Omega.{arith}
-use lib.ListN.{length, getD, take, drop, replicate}
+use lib.ListN.{length, getD}
 use Rattle.models.specs.Scan.{levelOf}
 use Rattle.models.proofs.Taken.{stored-more, levels-read}
 use Rattle.models.proofs.reader.table_in.Statement.{statement}

@@ -1,7 +1,7 @@
 -- `fence_line` meets its contract. Assumes nothing.
+use borrow.Author.Needs.{needs}
 use Rattle.models.proofs.Steps.{after-stuck, after-next}
 use Rattle.models.specs.Reading.{fenceAt}
-use borrow.Author.Needs.{needs}
 use Rattle.models.proofs.scan.fence_line.Statement.{statement}
 use Rattle.models.proofs.scan.fence_line.Tie as tie
 

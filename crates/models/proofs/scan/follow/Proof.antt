@@ -3,7 +3,7 @@ use borrow.Author.Tests.{not-true, not-false}
 -- `follow` meets its contract: after i bytes of the pattern the whole is what follows from here. Assumes nothing.
 use borrow.Author.Needs.{needs}
 use mathlib.Core.Path.{_≡_, refl, sym, _∙_}
-use Prim.Native.Nat.{ℕ, _+_, _-_, _≤_, _<_}
+use Prim.Native.Nat.{_-_, _≤_}
 use lib.ListN.{length, drop}
 use Rattle.models.specs.Scan.{followAt}
 use Rattle.models.proofs.Steps.{follow-over, follow-not, follow-more, follow-done}

@@ -1,7 +1,7 @@
 -- `head_line` meets its contract. Assumes nothing.
+use borrow.Author.Needs.{needs}
 use Rattle.models.proofs.Steps.{after-stuck, after-next}
 use Rattle.models.specs.Reading.{headAt}
-use borrow.Author.Needs.{needs}
 use Rattle.models.proofs.scan.head_line.Statement.{statement}
 use Rattle.models.proofs.scan.head_line.Tie as tie
 

@@ -1,9 +1,9 @@
 -- `is_cell` meets its contract: each `return` by the tests that led there. Assumes nothing.
-use mathlib.Core.Path.{_≡_}
 use Prim.Native.Nat.{ℕ}
+use mathlib.Core.Path.{_≡_}
+use borrow.Author.Tests.{eq-eqb, ne-eqb}
 use lib.Dec.{eqb}
 use Rattle.models.specs.Scan.{cellByte}
-use borrow.Author.Tests.{eq-eqb, ne-eqb}
 use Rattle.models.proofs.scan.is_cell.Statement.{statement}
 use Rattle.models.proofs.scan.is_cell.Tie as tie
 

@@ -1,7 +1,7 @@
 -- `line_end` meets its contract. Assumes nothing.
 use mathlib.Core.Path.{refl}
-use Rattle.models.proofs.Steps.{after-stuck, after-next}
 use borrow.Author.Needs.{needs}
+use Rattle.models.proofs.Steps.{after-stuck, after-next}
 use Rattle.models.proofs.scan.line_end.Statement.{statement}
 use Rattle.models.proofs.scan.line_end.Tie as tie
 

@@ -3,9 +3,9 @@ use denote.Ref.{now}
 use borrow.Author.Tests.{not-true, not-false}
 -- `name_bytes` meets its contract. Assumes nothing.
 use borrow.Author.Needs.{needs}
-use mathlib.Core.Path.{_≡_, refl, sym, _∙_}
-use Prim.Native.Nat.{ℕ, _+_, _-_, _≤_, _<_}
-use lib.ListN.{length, drop}
+use mathlib.Core.Path.{_≡_, sym, _∙_}
+use Prim.Native.Nat.{_+_, _-_, _≤_}
+use lib.ListN.{drop}
 use native.Mathlib.Omega.{arith}
 use Rattle.models.specs.Scan.{nameRun}
 use Rattle.models.proofs.Steps.{run-over, run-not, run-full, run-more}

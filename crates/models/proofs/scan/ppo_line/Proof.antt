@@ -1,6 +1,6 @@
 -- `ppo_line` meets its contract. Assumes nothing.
-use Rattle.models.proofs.Steps.{after-stuck, after-next}
 use borrow.Author.Needs.{needs}
+use Rattle.models.proofs.Steps.{after-stuck, after-next}
 use Rattle.models.proofs.scan.ppo_line.Statement.{statement}
 use Rattle.models.proofs.scan.ppo_line.Tie as tie
 

@@ -1,6 +1,6 @@
 -- `in_columns` meets its contract: at each arm the definition computes to the table of that column. Assumes nothing.
-use borrow.Author.Needs.{needs}
 use mathlib.Core.Path.{sym, ap, _∙_}
+use borrow.Author.Needs.{needs}
 use Rattle.tables.specs.Table.{table, columnTable}
 use Rattle.rule.specs.Situation.{inColumns}
 use Rattle.rule.proofs.situation.in_columns.Statement.{statement}

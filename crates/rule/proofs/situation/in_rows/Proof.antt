@@ -1,6 +1,6 @@
 -- `in_rows` meets its contract: at each arm the definition computes to the table of that row. Assumes nothing.
-use borrow.Author.Needs.{needs}
 use mathlib.Core.Path.{sym, ap, _∙_}
+use borrow.Author.Needs.{needs}
 use Rattle.tables.specs.Table.{table, rowTable}
 use Rattle.rule.specs.Situation.{inRows}
 use Rattle.rule.proofs.situation.in_rows.Statement.{statement}

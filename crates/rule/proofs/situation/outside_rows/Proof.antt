@@ -1,9 +1,9 @@
 -- `outside_rows` meets its contract: S everywhere exceeds the table of the rows outside them. Assumes nothing.
-use borrow.Author.Needs.{needs}
 use mathlib.Core.Path.{_≡_, refl, ap, _∙_}
+use borrow.Author.Needs.{needs}
 use Rattle.tables.specs.declared.table.Table.{Table}
 use Rattle.tables.specs.Table.{table, mergedTable, exceeding}
-use Rattle.rule.specs.declared.operation.Kind.{Kind}
+use Rattle.operations.specs.declared.Kind.{Kind}
 use Rattle.rule.specs.Situation.{inRows, outsideRows}
 use Rattle.rule.proofs.situation.outside_rows.Statement.{statement}
 use Rattle.rule.proofs.situation.outside_rows.Tie as tie

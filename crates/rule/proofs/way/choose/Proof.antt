@@ -1,11 +1,11 @@
 -- `choose` meets its contract. Assumes nothing.
 use mathlib.Core.Path.{sym, ap, _∙_}
+use borrow.Author.Needs.{needs}
 use denote.Ref.{now}
 use lib.ListN.{length}
 use Rattle.rule.specs.declared.way.Way.{Way}
 use Rattle.rule.specs.Rule.{pick}
 use Rattle.rule.proofs.Choices.{serves, choice-nothing, choice-pick}
-use borrow.Author.Needs.{needs}
 use Rattle.rule.proofs.way.choose.Statement.{statement}
 use Rattle.rule.proofs.way.choose.Tie as tie
 

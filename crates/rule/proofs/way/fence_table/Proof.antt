@@ -1,7 +1,7 @@
 -- `fence_table` meets its contract: past the end of a list there is 0. Assumes nothing.
-use borrow.Author.Needs.{needs}
-use mathlib.Core.Path.{sym, ap}
 use Prim.Native.Nat.{ℕ}
+use mathlib.Core.Path.{sym, ap}
+use borrow.Author.Needs.{needs}
 use denote.Ref.{now}
 use lib.ListN.{List·getD-eq-default}
 use Rattle.rule.proofs.way.fence_table.Statement.{statement}

@@ -1,20 +1,15 @@
 -- `last_fence` meets its contract. Assumes nothing.
-use mathlib.Core.Path.{_≡_, sym, ap, _∙_}
-use mathlib.Core.Bool.{true, false}
 use Prim.Native.Nat.{ℕ, _<_}
+use mathlib.Core.Path.{_≡_, sym, ap}
+use mathlib.Core.Bool.{true, false}
 use native.Mathlib.Omega.{arith}
+use borrow.Author.Needs.{needs}
 use denote.Ref.{now}
 use Rattle.rule.specs.Rule.{last}
 use Rattle.rule.proofs.Choices.{serves, told, last-of}
-use borrow.Author.Needs.{needs}
 use Rattle.rule.proofs.way.last_fence.Statement.{statement}
 use Rattle.rule.proofs.way.last_fence.Tie as tie
-use Rattle.rule.proofs.way.last_fence.Reads as reads
-use Rattle.rule.proofs.way.last_fence.Lts as lts
-use Rattle.rule.proofs.way.fence_table.Reads as fence-table-reads
-use Rattle.tables.proofs.table.Table.at_least.Reads as at-least-reads
 
--- src/way.rt:78:9
 some : {n : ℕ} → (n ≡ 0 → ⊥) → 0 < n
 some h = omega arith
 
@@ -23,23 +18,18 @@ returns c =
     let a = c .before .before .args in
     sym (ap (last (serves (now (a .fences)) (a .pending))) (c .if1 .taken))
 
--- src/way.rt:80:28
 sub-fence-table : tie.Need-sub-fence-table
 sub-fence-table c = search needs
 
--- src/way.rt:80:8
 fence-table-requires : tie.Need-fence-table-requires
 fence-table-requires c κs = search needs
 
--- src/way.rt:80:8
 at-least-requires : tie.Need-at-least-requires
 at-least-requires c κs = search needs
 
--- src/way.rt:81:23
 sub-t9 : tie.Need-sub-t9
 sub-t9 c = search needs
 
--- src/way.rt:73:1
 returns-2 : tie.Need-returns-2
 returns-2 c =
     let a = c .before .before .before .before .before .args in
@@ -47,7 +37,6 @@ returns-2 c =
     (last-of (serves (now (a .fences)) (a .pending)) _ (some (c .before .before .before .if1 .left)) true
     (told (a .pending) (c .before .before .fence-table .ensures) (c .before .at-least .ensures) (c .if2 .taken)))
 
--- src/way.rt:73:1
 returns-3 : tie.Need-returns-3
 returns-3 c =
     let a = c .before .before .before .before .before .args in

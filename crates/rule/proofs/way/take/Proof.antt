@@ -1,17 +1,17 @@
 -- `take` meets its contract: at each arm the choice says which step it is. Assumes nothing.
-use mathlib.Core.Path.{_≡_, sym, ap, ap₂, _∙_}
-use mathlib.Core.List.{List}
 use Prim.Native.Nat.{ℕ}
+use mathlib.Core.Path.{_≡_, sym, ap, _∙_}
+use mathlib.Core.List.{List}
+use borrow.Author.Needs.{needs}
 use denote.Ref.{now}
 use Rattle.tables.specs.declared.table.Table.{Table}
-use Rattle.rule.specs.declared.operation.Kind.{Kind}
+use Rattle.operations.specs.declared.Kind.{Kind}
 use Rattle.rule.specs.declared.situation.Situation.{Situation}
 use Rattle.rule.specs.declared.way.Way.{Way}
 use Rattle.rule.specs.declared.way.Choice.{Choice}
 use Rattle.rule.specs.declared.way.Step.{Step}
 use Rattle.rule.specs.Pairs.{Model}
 use Rattle.rule.specs.Situation.{joins, offers, pending, choiceOf, stepOf, stepped}
-use borrow.Author.Needs.{needs}
 use Rattle.rule.proofs.way.take.Statement.{statement}
 use Rattle.rule.proofs.way.take.Tie as tie
 

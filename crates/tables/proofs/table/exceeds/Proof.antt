@@ -1,6 +1,6 @@
 -- `exceeds` meets its contract. Assumes nothing.
-use Rattle.tables.proofs.Planes.{exceeds-from}
 use borrow.Author.Needs.{needs}
+use Rattle.tables.proofs.Planes.{exceeds-from}
 use Rattle.tables.proofs.table.exceeds.Statement.{statement}
 use Rattle.tables.proofs.table.exceeds.Tie as tie
 

@@ -2,10 +2,10 @@
 use Prim.Native.Nat.{ℕ, _+_, _*_, _/_, _%_}
 use mathlib.Core.Path.{_≡_, ap, ap₂, _∙_}
 use native.Mathlib.Omega.{arith}
+use borrow.Author.Needs.{needs}
 use Rattle.tables.specs.Cells.{digit, packed, over}
 use Rattle.tables.proofs.Planes.{pick, high-from, low-from, picked-joined, plane-fits}
 use Rattle.tables.proofs.Laws.{picked-places}
-use borrow.Author.Needs.{needs}
 use Rattle.tables.proofs.table.pick_where.Statement.{statement}
 use Rattle.tables.proofs.table.pick_where.Tie as tie
 

@@ -1,8 +1,8 @@
 -- `with_digit` meets its contract: a cell below 4, moved to a place below 16, fits above what is packed. Assumes nothing.
-use borrow.Author.Needs.{needs}
+use Prim.Native.Nat.{ℕ, _+_, _*_}
 use mathlib.Core.Path.{ap}
-use Prim.Native.Nat.{ℕ, _+_, _*_, _^_}
 use native.Mathlib.Omega.{arith}
+use borrow.Author.Needs.{needs}
 use lib.Pow.{shl-exact}
 use Rattle.tables.proofs.Packed.{more-below}
 use Rattle.tables.proofs.table.with_digit.Statement.{statement}

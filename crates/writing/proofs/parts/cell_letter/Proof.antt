@@ -1,7 +1,7 @@
 -- `cell_letter` meets its contract. Assumes nothing.
 use mathlib.Core.Path.{ap, _∙_}
-use Rattle.models.specs.Text.{letter}
 use borrow.Author.Needs.{needs}
+use Rattle.models.specs.Text.{letter}
 use Rattle.writing.proofs.parts.cell_letter.Statement.{statement}
 use Rattle.writing.proofs.parts.cell_letter.Tie as tie
 

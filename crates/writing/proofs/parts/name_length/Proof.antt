@@ -1,11 +1,9 @@
 -- `name_length` meets its contract. Assumes nothing.
-use borrow.Author.Needs.{needs}
-use mathlib.Core.Path.{_≡_, refl, sym, ap, _∙_}
-use mathlib.Core.List.{List, _++_}
-use Prim.Native.Nat.{ℕ, _+_, _-_, _≤_, _<_}
+use Prim.Native.Nat.{_+_, _-_, _≤_}
+use mathlib.Core.Path.{_≡_}
 use native.Mathlib.Omega.{arith}
-use denote.Ref.{now}
-use lib.ListN.{length, getD, take, drop, length-set}
+use borrow.Author.Needs.{needs}
+use lib.ListN.{length, drop}
 use Rattle.writing.specs.Writing.{unfilled}
 use Rattle.writing.proofs.Putting.{unfilled-zero, unfilled-more, unfilled-end}
 use Rattle.writing.proofs.parts.name_length.Statement.{statement}

@@ -2,12 +2,12 @@
 use mathlib.Core.List.{append-nil}
 -- `put` meets its contract: after i turns the first i bytes of the text stand there. Assumes nothing.
 use borrow.Author.Needs.{needs}
-use mathlib.Core.Path.{_≡_, refl, sym, ap, _∙_}
-use mathlib.Core.List.{List, _++_}
-use Prim.Native.Nat.{ℕ, _+_, _-_, _≤_, _<_}
+use mathlib.Core.Path.{_≡_, refl, sym}
+use mathlib.Core.List.{_++_}
+use Prim.Native.Nat.{_+_, _-_, _≤_}
 use native.Mathlib.Omega.{arith}
 use denote.Ref.{now}
-use lib.ListN.{length, getD, take, drop, length-set}
+use lib.ListN.{length, take, length-set}
 use Rattle.writing.proofs.Putting.{byte-put, put-all}
 use Rattle.writing.proofs.parts.put.Statement.{statement}
 use Rattle.writing.proofs.parts.put.Tie as tie

@@ -1,7 +1,7 @@
 -- `put_fence` meets its contract: its parts one after another. Assumes nothing.
-use Rattle.writing.proofs.Putting.{put-then}
 use native.Mathlib.Omega.{arith}
 use borrow.Author.Needs.{needs}
+use Rattle.writing.proofs.Putting.{put-then}
 use Rattle.writing.proofs.parts.put_fence.Statement.{statement}
 use Rattle.writing.proofs.parts.put_fence.Tie as tie
 

@@ -1,7 +1,7 @@
 -- `put_head` meets its contract: its parts one after another. Assumes nothing.
-use Rattle.writing.proofs.Putting.{put-then}
 use native.Mathlib.Omega.{arith}
 use borrow.Author.Needs.{needs}
+use Rattle.writing.proofs.Putting.{put-then}
 use Rattle.writing.proofs.parts.put_head.Statement.{statement}
 use Rattle.writing.proofs.parts.put_head.Tie as tie
 

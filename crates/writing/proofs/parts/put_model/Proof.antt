@@ -1,7 +1,7 @@
 -- `put_model` meets its contract: its parts one after another. Assumes nothing.
 use native.Mathlib.Omega.{arith}
-use Rattle.writing.proofs.Putting.{put-then}
 use borrow.Author.Needs.{needs}
+use Rattle.writing.proofs.Putting.{put-then}
 use Rattle.writing.proofs.parts.put_model.Statement.{statement}
 use Rattle.writing.proofs.parts.put_model.Tie as tie
 

@@ -1,12 +1,11 @@
 -- `put_name` meets its contract. Assumes nothing.
+use Prim.Native.Nat.{ℕ}
 use mathlib.Core.Path.{_≡_, sym, ap, _∙_}
 use native.Mathlib.Omega.{arith}
-use Prim.Native.Nat.{ℕ}
-use mathlib.Core.List.{List, [], _∷_}
+use borrow.Author.Needs.{needs}
 use lib.ListN.{length, take}
 use lib.Seq.{length-take-le}
 use Rattle.writing.proofs.Putting.{put-is, unfilled-front}
-use borrow.Author.Needs.{needs}
 use Rattle.writing.proofs.parts.put_name.Statement.{statement}
 use Rattle.writing.proofs.parts.put_name.Tie as tie
 

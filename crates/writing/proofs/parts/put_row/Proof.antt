@@ -1,11 +1,7 @@
 -- `put_row` meets its contract. Assumes nothing.
-use mathlib.Core.Path.{_≡_, sym, ap, _∙_}
-use native.Mathlib.Omega.{arith}
-use Prim.Native.Nat.{ℕ}
-use mathlib.Core.List.{List, [], _∷_}
-use lib.ListN.{length, take}
-use Rattle.writing.proofs.Putting.{put-is}
+use mathlib.Core.List.{[], _∷_}
 use borrow.Author.Needs.{needs}
+use Rattle.writing.proofs.Putting.{put-is}
 use Rattle.writing.proofs.parts.put_row.Statement.{statement}
 use Rattle.writing.proofs.parts.put_row.Tie as tie
 

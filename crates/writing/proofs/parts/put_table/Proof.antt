@@ -1,6 +1,6 @@
 -- `put_table` meets its contract: the rows one after another. Assumes nothing.
-use Rattle.writing.proofs.Putting.{put-then}
 use borrow.Author.Needs.{needs}
+use Rattle.writing.proofs.Putting.{put-then}
 use Rattle.writing.proofs.parts.put_table.Statement.{statement}
 use Rattle.writing.proofs.parts.put_table.Tie as tie
 

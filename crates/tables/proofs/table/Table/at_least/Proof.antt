@@ -1,6 +1,6 @@
 -- `Table::at_least` meets its contract: nothing of the other exceeds this one. Assumes nothing.
-use borrow.Author.Needs.{needs}
 use mathlib.Core.Path.{ap}
+use borrow.Author.Needs.{needs}
 use lib.Dec.{eqb}
 use Rattle.tables.specs.declared.table.Table.{Table}
 use Rattle.tables.specs.Table.{atLeast}

@@ -1,26 +1,18 @@
-use borrow.Author.Needs.{needs}
 use mathlib.Core.Path.{ap, _∙_}
+use borrow.Author.Needs.{needs}
 use Rattle.tables.specs.Cells.{digit}
 use Rattle.tables.proofs.table.Table.cell.Statement.{statement}
 use Rattle.tables.proofs.table.Table.cell.Tie as tie
-use Rattle.tables.proofs.table.Table.cell.Reads as reads
-use Rattle.tables.proofs.table.Table.cell.Lts as lts
-use Rattle.tables.proofs.table.digit_at.Reads as digit-at-reads
-use Rattle.tables.proofs.table.place_of.Reads as place-of-reads
 
--- src/table.rt:46:13
 place-of-requires : tie.Need-place-of-requires
 place-of-requires c κs = search needs
 
--- src/table.rt:47:13
 digit-at-requires : tie.Need-digit-at-requires
 digit-at-requires c κs = search needs
 
--- src/table.rt:49:20
 cast-t6 : tie.Need-cast-t6
 cast-t6 c = search needs
 
--- src/table.rt:43:5
 returns : tie.Need-returns
 returns c = c .digit-at .ensures .0 ∙ ap (digit (c .before .before .args .self .packed)) (c .before .place-of .ensures .0)
 

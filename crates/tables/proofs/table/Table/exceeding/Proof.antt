@@ -1,7 +1,7 @@
 -- `Table::exceeding` meets its contract. Assumes nothing.
 use mathlib.Core.Path.{_∙_}
-use Rattle.tables.proofs.Laws.{picked-exceeding}
 use borrow.Author.Needs.{needs}
+use Rattle.tables.proofs.Laws.{picked-exceeding}
 use Rattle.tables.proofs.table.Table.exceeding.Statement.{statement}
 use Rattle.tables.proofs.table.Table.exceeding.Tie as tie
 

@@ -1,7 +1,7 @@
 -- `Table::higher` meets its contract. Assumes nothing.
 use mathlib.Core.Path.{_∙_}
-use Rattle.tables.proofs.Laws.{picked-higher}
 use borrow.Author.Needs.{needs}
+use Rattle.tables.proofs.Laws.{picked-higher}
 use Rattle.tables.proofs.table.Table.higher.Statement.{statement}
 use Rattle.tables.proofs.table.Table.higher.Tie as tie
 

@@ -1,7 +1,7 @@
 -- `Table::lower` meets its contract. Assumes nothing.
 use mathlib.Core.Path.{_∙_}
-use Rattle.tables.proofs.Laws.{picked-lower}
 use borrow.Author.Needs.{needs}
+use Rattle.tables.proofs.Laws.{picked-lower}
 use Rattle.tables.proofs.table.Table.lower.Statement.{statement}
 use Rattle.tables.proofs.table.Table.lower.Tie as tie
 

@@ -1,13 +1,13 @@
 -- `of_levels` meets its contract: after i turns the first i cells are packed. Assumes nothing.
+use Prim.Native.Nat.{ℕ, _+_, _*_, _-_, _%_, _^_, _≤_}
+use mathlib.Core.Path.{_≡_, ap, _∙_}
 use native.Mathlib.Omega.{arith}
 use native.Mathlib.Nat.{mod-lt}
 use native.Mathlib.Numerals.{add-one}
+use borrow.Author.Needs.{needs}
+use lib.ListN.{length, getD}
 use Rattle.tables.proofs.Packed.{packed-below}
 use Rattle.tables.proofs.Laws.{levels-places}
-use borrow.Author.Needs.{needs}
-use Prim.Native.Nat.{ℕ, _+_, _*_, _-_, _%_, _^_, _≤_}
-use mathlib.Core.Path.{_≡_, ap, _∙_}
-use lib.ListN.{length, getD}
 use Rattle.tables.specs.Cells.{packed}
 use Rattle.tables.proofs.table.Table.of_levels.Statement.{statement}
 use Rattle.tables.proofs.table.Table.of_levels.Tie as tie

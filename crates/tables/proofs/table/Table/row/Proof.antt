@@ -1,6 +1,6 @@
 -- `Table::row` meets its contract: at each arm the definition computes to the arm's number. Assumes nothing.
-use borrow.Author.Needs.{needs}
 use mathlib.Core.Path.{sym, ap}
+use borrow.Author.Needs.{needs}
 use Rattle.tables.specs.Table.{table, rowTable}
 use Rattle.tables.proofs.table.Table.row.Statement.{statement}
 use Rattle.tables.proofs.table.Table.row.Tie as tie

@@ -1,0 +1,3 @@
+pub mod Truths
+pub mod Sameness
+pub mod Lowest

@@ -1,0 +1,51 @@
+// The letters of a machine's alphabet: its operations by their places.
+ghost use Prim.Native.Nat.{_<_};
+ghost use mathlib.Core.Path.{_≡_};
+ghost use Rattle.operations.specs.Alphabet.{accessLetters, kindOf, letterOf, operationOf};
+ghost use Rattle.operations.specs.Operation.{byteOf};
+use crate::Kind;
+use crate::Operation;
+
+// The kind of an access's letter. (A letter that is no access's counts as the last.)
+pub fn kind_of(letter: usize) -> Kind
+    ensures { λ r. ⌜ r ≡ kindOf letter ⌝ }
+{
+    if letter == 0 {
+        return Kind::Ld;
+    }
+    if letter == 1 {
+        return Kind::Cld;
+    }
+    if letter == 2 {
+        return Kind::St;
+    }
+    Kind::Cst
+}
+
+pub fn letter_of(kind: Kind) -> usize
+    ensures { λ r. ⌜ (r ≡ letterOf kind) × (r < accessLetters) ⌝ }
+{
+    match kind {
+        Kind::Ld => 0,
+        Kind::Cld => 1,
+        Kind::St => 2,
+        Kind::Cst => 3,
+    }
+}
+
+pub fn operation_of(letter: usize) -> Operation
+    ensures { λ r. ⌜ r ≡ operationOf letter ⌝ }
+{
+    if letter < 4 {
+        Operation::Access(kind_of(letter))
+    } else {
+        Operation::Fence(letter - 4)
+    }
+}
+
+// The byte of a letter's operation.
+pub fn letter_byte(letter: usize) -> u8
+    ensures { λ r. ⌜ r ≡ byteOf (operationOf letter) ⌝ }
+{
+    crate::byte_of(operation_of(letter))
+}
