@@ -22,9 +22,14 @@ abbrev pub bufferOf : Given → List ℕ → List ℕ
 bufferOf (gives bytes fences state) out = written bytes out
 bufferOf (refuses why) out = out
 
--- where what is to be given is told by a property: the call answers something of that property
+-- what every call that writes promises: it delivers this into that buffer. `out` is the buffer before the call and `after` the buffer after
+-- it; r is the answer.
+pub record Delivers (given : Given) (out : List ℕ) (r : Answer) (after : List ℕ) : Type 0 where
+  pub answer : r ≡ answerOf given (length out)
+  pub buffer : after ≡ bufferOf given out
+
+-- where what is to be given is told by a property: the call delivers something of that property
 pub record Answers (Right : Given → Type 0) (out : List ℕ) (r : Answer) (after : List ℕ) : Type 0 where
   pub given : Given
   pub right : Right given
-  pub answer : r ≡ answerOf given (length out)
-  pub buffer : after ≡ bufferOf given out
+  pub delivered : Delivers given out r after

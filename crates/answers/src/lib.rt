@@ -1,8 +1,7 @@
 // What a call answers: the refusals of document 01's table, and the five numbers of an answer.
 ghost use mathlib.Core.Path.{_≡_};
-ghost use lib.ListN.{length};
 ghost use Rattle.answers.specs.Answer.{numberOf, placeOf, numbersOf};
-ghost use Rattle.answers.specs.Written.{written, writing};
+ghost use Rattle.answers.specs.Given.{gives, Delivers};
 
 // A refusal, with its place where it has one other than 0.
 pub enum Refusal {
@@ -94,8 +93,7 @@ impl Answer {
 
 // Writes the text to the buffer, or nothing where it does not fit. A call that writes makes its text apart and ends with this.
 pub fn write_out(text: &[u8], fences: usize, state: usize, out: &mut [u8]) -> Answer
-    ensures answer { λ r. ⌜ r ≡ writing (now (text .entry)) fences state (length (now (out .entry))) ⌝ }
-    ensures buffer { λ _. ⌜ now (out .exit) ≡ written (now (text .entry)) (now (out .entry)) ⌝ }
+    ensures { λ r. ⌜ Delivers (gives (now (text .entry)) fences state) (now (out .entry)) r (now (out .exit)) ⌝ }
 {
     let n = text.len();
     if out.len() < n {

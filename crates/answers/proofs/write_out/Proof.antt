@@ -17,7 +17,12 @@ abbrev μ-loop : tie.MeasureT-loop
 μ-loop text fences state out₀ n i₀ out i = n - i
 
 returns : tie.Need-returns Inv-loop μ-loop
-returns c = let a = c .before .args in (sym (writing-not (now (a .text)) (a .fences) (a .state) (length (now (a .out))) (c .if1 .taken)), sym (written-not (now (a .text)) (now (a .out)) (c .if1 .taken)))
+returns c =
+    let a = c .before .args in
+    record {
+      answer = sym (writing-not (now (a .text)) (a .fences) (a .state) (length (now (a .out))) (c .if1 .taken));
+      buffer = sym (written-not (now (a .text)) (now (a .out)) (c .if1 .taken));
+    }
 
 loop-holds : tie.Need-loop-holds Inv-loop μ-loop
 loop-holds c = search needs
@@ -52,10 +57,11 @@ same-length c = c .before .loop .inv .3
 returns-2 : tie.Need-returns-2 Inv-loop μ-loop
 returns-2 c =
     let a = c .before .before .before .args in
-    let l = c .before .loop in (
-      sym (writing-fits (now (a .text)) (a .fences) (a .state) (length (now (a .out))) (omega arith)),
-      copied-all (now (a .text)) (now (a .out)) (l .out) (l .i) (omega arith) (omega arith) (l .inv .4),
-    )
+    let l = c .before .loop in
+    record {
+      answer = sym (writing-fits (now (a .text)) (a .fences) (a .state) (length (now (a .out))) (omega arith));
+      buffer = copied-all (now (a .text)) (now (a .out)) (l .out) (l .i) (omega arith) (omega arith) (l .inv .4);
+    }
 
 pub write-out-spec : {M : Type 1} → statement M
 write-out-spec =
