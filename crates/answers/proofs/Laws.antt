@@ -9,23 +9,23 @@ use lib.ListN.{length, take, drop, getD, set}
 use lib.Seq.{length-take-le, take-suc, take-length, drop-cons, set-at, append-snoc}
 use Rattle.answers.specs.declared.Refusal.{Refusal}
 use Rattle.answers.specs.declared.Answer.{Answer}
-use Rattle.answers.specs.Written.{written, writing}
+use Rattle.answers.specs.Buffer.{bufferWith, answerWith}
 
-pub written-fits : (text out : List ℕ) → length text ≤ length out → written text out ≡ text ++ drop (length text) out
-unfolding written
-written-fits text out l = rw (le-leb _ _ l)
+pub buffer-fits : (text out : List ℕ) → length text ≤ length out → bufferWith text out ≡ text ++ drop (length text) out
+unfolding bufferWith
+buffer-fits text out l = rw (le-leb _ _ l)
 
-pub written-not : (text out : List ℕ) → length out < length text → written text out ≡ out
-unfolding written
-written-not text out l = rw (lt-leb _ _ l)
+pub buffer-not : (text out : List ℕ) → length out < length text → bufferWith text out ≡ out
+unfolding bufferWith
+buffer-not text out l = rw (lt-leb _ _ l)
 
-pub writing-fits : (text : List ℕ) (fences state room : ℕ) → length text ≤ room → writing text fences state room ≡ Answer.Done (length text) fences state
-unfolding writing
-writing-fits text fences state room l = rw (le-leb _ _ l)
+pub answer-fits : (text : List ℕ) (fences state room : ℕ) → length text ≤ room → answerWith text fences state room ≡ Answer.Done (length text) fences state
+unfolding answerWith
+answer-fits text fences state room l = rw (le-leb _ _ l)
 
-pub writing-not : (text : List ℕ) (fences state room : ℕ) → room < length text → writing text fences state room ≡ Answer.Refused Refusal.BufferTooSmall
-unfolding writing
-writing-not text fences state room l = rw (lt-leb _ _ l)
+pub answer-not : (text : List ℕ) (fences state room : ℕ) → room < length text → answerWith text fences state room ≡ Answer.Refused Refusal.BufferTooSmall
+unfolding answerWith
+answer-not text fences state room l = rw (lt-leb _ _ l)
 
 -- one byte more is copied
 pub copied-more : (s d : List ℕ) (i : ℕ) → i < length s → i < length d
@@ -38,6 +38,6 @@ copied-more s d i ls ld =
     ∙ ap (λ (n : ℕ). take n s ++ drop n d) (sym (add-one i))
 
 -- all bytes are copied
-pub copied-all : (s d c : List ℕ) (i : ℕ) → i ≡ length s → length s ≤ length d → c ≡ take i s ++ drop i d → c ≡ written s d
+pub copied-all : (s d c : List ℕ) (i : ℕ) → i ≡ length s → length s ≤ length d → c ≡ take i s ++ drop i d → c ≡ bufferWith s d
 copied-all s d c i e l is =
-    is ∙ ap (λ (n : ℕ). take n s ++ drop n d) e ∙ ap (λ (t : List ℕ). t ++ drop (length s) d) (take-length s) ∙ sym (written-fits s d l)
+    is ∙ ap (λ (n : ℕ). take n s ++ drop n d) e ∙ ap (λ (t : List ℕ). t ++ drop (length s) d) (take-length s) ∙ sym (buffer-fits s d l)

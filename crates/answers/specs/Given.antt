@@ -6,7 +6,7 @@ use mathlib.Core.List.{List}
 use lib.ListN.{length}
 use Rattle.answers.specs.declared.Refusal.{Refusal}
 use Rattle.answers.specs.declared.Answer.{Answer}
-use Rattle.answers.specs.Written.{written, writing}
+use Rattle.answers.specs.Buffer.{bufferWith, answerWith}
 
 -- bytes to write, with the fences and the end state to tell; or a refusal
 pub data Given : Type 0 where
@@ -15,11 +15,11 @@ pub data Given : Type 0 where
 
 -- the answer where the buffer has room for so many bytes, and the buffer after it
 abbrev pub answerOf : Given → ℕ → Answer
-answerOf (gives bytes fences state) room = writing bytes fences state room
+answerOf (gives bytes fences state) room = answerWith bytes fences state room
 answerOf (refuses why) room = Answer.Refused why
 
 abbrev pub bufferOf : Given → List ℕ → List ℕ
-bufferOf (gives bytes fences state) out = written bytes out
+bufferOf (gives bytes fences state) out = bufferWith bytes out
 bufferOf (refuses why) out = out
 
 -- what every call that writes promises: it delivers this into that buffer. `out` is the buffer before the call and `after` the buffer after

@@ -1,3 +1,3 @@
 pub mod Answer
-pub mod Written
+pub mod Buffer
 pub mod Given

@@ -8,7 +8,7 @@ use borrow.Author.Tests.{le-leb}
 use lib.ListN.{length, set, take, drop, length-append, length-set, length-drop, List·getD-append}
 use lib.Seq.{getD-set-same, getD-set-other, getD-at, getD-append-add, getD-drop, ext-getD, getD-take, length-take-le}
 use Rattle.ground.specs.Bytes.{at}
-use Rattle.answers.specs.Written.{written}
+use Rattle.answers.specs.Buffer.{bufferWith}
 use Rattle.image.specs.Image.{listed, Front, Filled}
 
 pub length-listed : (n : ℕ) (f : ℕ → ℕ) → length (listed n f) ≡ n
@@ -68,8 +68,8 @@ pub filled-to : {l : List ℕ} {f : ℕ → ℕ} {n : ℕ} {m : List ℕ} → Fi
 filled-to {l} {f} {n} {m} r k e = subst (λ (x : ℕ). Filled l f x m) e r
 
 -- the values and then what was there
-pub filled-whole : {l : List ℕ} {f : ℕ → ℕ} {n : ℕ} {m : List ℕ} → Filled l f n m → m ≡ written (listed n f) l
-unfolding written
+pub filled-whole : {l : List ℕ} {f : ℕ → ℕ} {n : ℕ} {m : List ℕ} → Filled l f n m → m ≡ bufferWith (listed n f) l
+unfolding bufferWith
 filled-whole {l} {f} {n} {m} r =
     let z = length-listed n f in
     let k : n ≤ length l = omega (arith, r .size, r .front .fits) in

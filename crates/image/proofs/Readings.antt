@@ -6,7 +6,7 @@ use native.Mathlib.Omega.{arith}
 use borrow.Author.Tests.{le-leb, lt-leb}
 use lib.ListN.{length}
 use Rattle.ground.specs.Bytes.{at}
-use Rattle.answers.specs.Written.{written}
+use Rattle.answers.specs.Buffer.{bufferWith}
 use Rattle.answers.specs.declared.Refusal.{Refusal}
 use Rattle.answers.specs.declared.Verdict.{Verdict}
 use Rattle.operations.specs.Alphabet.{stride}
@@ -23,7 +23,7 @@ length-rows image = length-listed _ _
 module _ (image rows : List ℕ) (n : ℕ) (states : n ≡ at image 4) where
   pub read-short : length rows < n * stride → (refusedReading Refusal.BufferTooSmall ≡ readAs image (length rows) Verdict.Accepted)
       × (rows ≡ rowsAs image rows Verdict.Accepted)
-  unfolding written
+  unfolding bufferWith
   read-short l = (
     rw (lt-leb (statesOf image * stride) (length rows) (omega arith)),
     rw (lt-leb (length (rowsOf image)) (length rows) (omega (arith, length-rows image))),

@@ -7,7 +7,7 @@ use borrow.Author.Tests.{le-leb}
 use lib.ListN.{length, take, drop, replicate, length-replicate}
 use lib.Seq.{take-at}
 use Rattle.ground.specs.Bytes.{at}
-use Rattle.answers.specs.Written.{written, writing}
+use Rattle.answers.specs.Buffer.{bufferWith, answerWith}
 use Rattle.answers.specs.declared.Refusal.{Refusal}
 use Rattle.answers.specs.declared.Answer.{Answer}
 use Rattle.answers.specs.Given.{refuses, gives}
@@ -39,7 +39,7 @@ module _ (image : List ℕ) (bytes : (i : ℕ) → at image i < 256) where
   accepted-header = rw (le-leb (statesOf image * stride) (length rows) room)
 
   accepted-rows : take (statesOf image * stride) (rowsAs image rows Verdict.Accepted) ≡ rowsOf image
-  unfolding written
+  unfolding bufferWith
   accepted-rows =
       rw (le-leb (length (rowsOf image)) (length rows) (omega (arith, length-rows image, room)))
       (take-at (rowsOf image) (drop (length (rowsOf image)) rows) (statesOf image * stride) (length-rows image))
@@ -75,17 +75,17 @@ module _ (image : List ℕ) (bytes : (i : ℕ) → at image i < 256) where
           ∙ read-then-written image bytes accepted
 
       pub back-accepted : (n : ℕ) (rows′ out out′ : List ℕ) (a : Answer) → n ≡ r .header .states → rows′ ≡ rowsAfter image rows
-          → (a ≡ writing (imageOf (r .header) (take (n * stride) rows′)) 0 0 (length out))
-          × (out′ ≡ written (imageOf (r .header) (take (n * stride) rows′)) out)
+          → (a ≡ answerWith (imageOf (r .header) (take (n * stride) rows′)) 0 0 (length out))
+          × (out′ ≡ bufferWith (imageOf (r .header) (take (n * stride) rows′)) out)
           → Answered (writtenBack image) out a out′
       unfolding writtenBack
       back-accepted n rows′ out out′ a e w h =
           let s = same-image n rows′ e w in
           answered-same (gives image 0 0) (writtenBack image) out a out′ (ap (backAs image) (sym accepted))
-          (h .0 ∙ ap (λ (l : List ℕ). writing l 0 0 (length out)) s, h .1 ∙ ap (λ (l : List ℕ). written l out) s)
+          (h .0 ∙ ap (λ (l : List ℕ). answerWith l 0 0 (length out)) s, h .1 ∙ ap (λ (l : List ℕ). bufferWith l out) s)
 
 -- the four numbers of an image that was written back
-pub header-told : (image : List ℕ) (a : Answer) (written fences state : ℕ) {way states ups targets : ℕ} → a ≡ Answer.Done written fences state
+pub header-told : (image : List ℕ) (a : Answer) (n fences state : ℕ) {way states ups targets : ℕ} → a ≡ Answer.Done n fences state
     → way ≡ at image 3 → states ≡ statesOf image → ups ≡ upstreamFencesOf image → targets ≡ targetFencesOf image
     → way ∷ states ∷ ups ∷ targets ∷ [] ≡ headerAs image a
-header-told image a written fences state e w s u t = cc
+header-told image a n fences state e w s u t = cc

@@ -10,7 +10,7 @@ use mathlib.Core.List.{List, [], _∷_, _++_}
 use lib.Dec.{leb, ltb, eqb}
 use lib.ListN.{length, set, replicate}
 use Rattle.ground.specs.Bytes.{at, nameByte}
-use Rattle.answers.specs.Written.{written}
+use Rattle.answers.specs.Buffer.{bufferWith}
 use Rattle.answers.specs.declared.Refusal.{Refusal}
 use Rattle.answers.specs.declared.Verdict.{Verdict}
 use Rattle.operations.specs.Alphabet.{stride}
@@ -106,7 +106,7 @@ readAs image room Verdict.Accepted =
 
 abbrev pub rowsAs : List ℕ → List ℕ → Verdict → List ℕ
 rowsAs image rows (Verdict.Refused why) = rows
-rowsAs image rows Verdict.Accepted = written (rowsOf image) rows
+rowsAs image rows Verdict.Accepted = bufferWith (rowsOf image) rows
 
 unfoldable pub readingOf : List ℕ → ℕ → Reading
 readingOf image room = readAs image room (verdictOf image)

@@ -2,7 +2,7 @@
 ghost use Prim.Native.Nat.{_+_, _*_, _/_, _%_, _^_, _<_};
 ghost use mathlib.Core.Path.{_≡_};
 ghost use lib.ListN.{length};
-ghost use Rattle.answers.specs.Written.{written, writing};
+ghost use Rattle.answers.specs.Buffer.{bufferWith, answerWith};
 ghost use Rattle.image.specs.Image.{word, half, used, sizeOf, valueAt, byteAt, imageOf, Front, sealed};
 use crate::machine::Header;
 use answers::Answer;
@@ -120,8 +120,8 @@ fn fill(h: Header, rows: &[u16], image: &mut [u8])
 
 // The image of a machine, or nothing where it does not fit.
 pub fn write(h: Header, rows: &[u16], out: &mut [u8]) -> Answer
-    ensures answer { λ r. ⌜ r ≡ writing (imageOf h (now (rows .entry))) 0 0 (length (now (out .entry))) ⌝ }
-    ensures buffer { λ _. ⌜ now (out .exit) ≡ written (imageOf h (now (rows .entry))) (now (out .entry)) ⌝ }
+    ensures answer { λ r. ⌜ r ≡ answerWith (imageOf h (now (rows .entry))) 0 0 (length (now (out .entry))) ⌝ }
+    ensures buffer { λ _. ⌜ now (out .exit) ≡ bufferWith (imageOf h (now (rows .entry))) (now (out .entry)) ⌝ }
 {
     let mut image = [0u8; 7168];
     fill(h, rows, &mut image);

@@ -6,7 +6,7 @@ use native.Mathlib.Omega.{arith}
 use borrow.Author.Tests.{lt-ltb, le-ltb, le-leb, lt-leb}
 use lib.ListN.{length, take}
 use Rattle.ground.specs.Bytes.{at}
-use Rattle.answers.specs.Written.{written, writing}
+use Rattle.answers.specs.Buffer.{bufferWith, answerWith}
 use Rattle.answers.specs.declared.Refusal.{Refusal}
 use Rattle.answers.specs.declared.Answer.{Answer}
 use Rattle.answers.specs.Given.{refuses, gives}
@@ -32,7 +32,7 @@ module _ (r : Ran) (e : Ending) (room : List ℕ) (ends : Ends r e room) where
   run-fits p h = subst (λ (y : Ending). Ends r y room) h ends .0
 
   pub run-given : (p : Progress) (out out′ : List ℕ) (a : Answer) → e ≡ Ending.Ended p
-      → (a ≡ writing (take (p .written) room) (p .fences) (p .state) (length out)) × (out′ ≡ written (take (p .written) room) out)
+      → (a ≡ answerWith (take (p .written) room) (p .fences) (p .state) (length out)) × (out′ ≡ bufferWith (take (p .written) room) out)
       → Answered (outcomeOf r) out a out′
   run-given p out out′ a h w =
       let s : r ≡ ended (take (p .written) room) (p .fences) (p .state) = subst (λ (y : Ending). Ends r y room) h ends .1 in

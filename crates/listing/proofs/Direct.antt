@@ -11,7 +11,7 @@ use lib.Seq.{take-append-seam}
 use Rattle.ground.proofs.Truths.{differ}
 use Rattle.answers.specs.declared.Refusal.{Refusal}
 use Rattle.answers.specs.declared.Answer.{Answer}
-use Rattle.answers.proofs.Laws.{written-fits, writing-fits}
+use Rattle.answers.proofs.Laws.{buffer-fits, answer-fits}
 use Rattle.answers.specs.declared.Verdict.{Verdict}
 use Rattle.operations.specs.Operation.{fenceByte}
 use Rattle.rule.specs.declared.situation.Situation.{Situation}
@@ -110,7 +110,7 @@ module _ (x : Outcome) (is : Short 8192 x) (buffer : List ℕ) (size : length bu
     where
       by : (x : Outcome) → Short 8192 x → Answer.Refused why ≡ call.answerOf x (length buffer) → x ≡ refuse why
       by (put out) s e =
-          let z : Answer.Refused why ≡ Answer.Done (length out) (fenceBytes out) 0 = e ∙ writing-fits out (fenceBytes out) 0 (length buffer) (omega arith) in
+          let z : Answer.Refused why ≡ Answer.Done (length out) (fenceBytes out) 0 = e ∙ answer-fits out (fenceBytes out) 0 (length buffer) (omega arith) in
           differ (cc)
       by (refuse w) s e =
           let z : why ≡ w = cc in
@@ -121,10 +121,10 @@ module _ (x : Outcome) (is : Short 8192 x) (buffer : List ℕ) (size : length bu
     where
       by : (y : Outcome) → x ≡ y → Short 8192 y → Answer.Done w f s ≡ call.answerOf y (length buffer) → after ≡ call.bufferOf y buffer → Taken x w f after
       by (put out) h s e b =
-          let z : Answer.Done w f _ ≡ Answer.Done (length out) (fenceBytes out) 0 = e ∙ writing-fits out (fenceBytes out) 0 (length buffer) (omega arith) in
+          let z : Answer.Done w f _ ≡ Answer.Done (length out) (fenceBytes out) 0 = e ∙ answer-fits out (fenceBytes out) 0 (length buffer) (omega arith) in
           let n : w ≡ length out = cc in
           let c : f ≡ fenceBytes out = cc in
-          let a : after ≡ out ++ drop (length out) buffer = b ∙ written-fits out buffer (omega arith) in
+          let a : after ≡ out ++ drop (length out) buffer = b ∙ buffer-fits out buffer (omega arith) in
           let t : take w after ≡ out = ap (take w) a ∙ ap (λ (k : ℕ). take k (out ++ drop (length out) buffer)) n ∙ take-append-seam out (drop (length out) buffer) in
           record {
             gives = h ∙ ap put (sym t);

@@ -10,12 +10,12 @@ use lib.ListN.{length}
 use Rattle.ground.proofs.Truths.{differ}
 use Rattle.answers.specs.declared.Refusal.{Refusal}
 use Rattle.answers.specs.declared.Answer.{Answer}
-use Rattle.answers.specs.Written.{writing}
+use Rattle.answers.specs.Buffer.{answerWith}
 use Rattle.answers.specs.Given.{Given, gives, refuses, answerOf, Answers}
 
-pub writing-within : (text : List ℕ) (f z room : ℕ) {w g s : ℕ} → Answer.Done w g s ≡ writing text f z room → w ≤ room
-unfolding writing
-writing-within text f z room {w} {g} {s} e = by (leb (length text) room) refl e
+pub answer-within : (text : List ℕ) (f z room : ℕ) {w g s : ℕ} → Answer.Done w g s ≡ answerWith text f z room → w ≤ room
+unfolding answerWith
+answer-within text f z room {w} {g} {s} e = by (leb (length text) room) refl e
   where
     by : (q : Bool) → leb (length text) room ≡ q
         → Answer.Done w g s ≡ cond q (Answer.Done (length text) f z) (Answer.Refused Refusal.BufferTooSmall) → w ≤ room
@@ -28,5 +28,5 @@ pub listing-within : {P : Given → Type 0} (out : List ℕ) {r : Answer} {after
 listing-within out {w = w} {g = g} {s = s} a e = by (a .given) ((cc))
   where
     by : (x : Given) → Answer.Done w g s ≡ answerOf x (length out) → w ≤ length out
-    by (gives text f z) e = writing-within text f z (length out) e
+    by (gives text f z) e = answer-within text f z (length out) e
     by (refuses why) e = differ (cc)

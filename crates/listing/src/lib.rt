@@ -5,7 +5,7 @@ mod shape;
 ghost use Prim.Native.Nat.{_+_};
 ghost use mathlib.Core.Path.{_≡_};
 ghost use lib.ListN.{length};
-ghost use Rattle.answers.specs.Written.{written, writing};
+ghost use Rattle.answers.specs.Buffer.{bufferWith, answerWith};
 ghost use Rattle.answers.specs.Given.{answerOf, bufferOf, Answers};
 ghost use Rattle.writing.specs.Writing.{unfilled};
 ghost use Rattle.machine.specs.Rows.{rowOf};
@@ -28,8 +28,8 @@ use rule::way::Way;
 
 // Writes the line of a refusal, `refused N at K`.
 pub fn refusal_line(why: Refusal, out: &mut [u8]) -> Answer
-    ensures answer { λ r. ⌜ r ≡ writing (refusalLine why) 0 0 (length (now (out .entry))) ⌝ }
-    ensures buffer { λ _. ⌜ now (out .exit) ≡ written (refusalLine why) (now (out .entry)) ⌝ }
+    ensures answer { λ r. ⌜ r ≡ answerWith (refusalLine why) 0 0 (length (now (out .entry))) ⌝ }
+    ensures buffer { λ _. ⌜ now (out .exit) ≡ bufferWith (refusalLine why) (now (out .entry)) ⌝ }
 {
     let mut line = [0u8; 53];
     let n = print::put_refusal(&mut line, why);
@@ -48,8 +48,8 @@ fn write_listing<'a>(
     out: &mut [u8],
 ) -> Answer
     requires { ⌜ Listable machine (now rows) (now output) fences ⌝ }
-    ensures answer { λ r. ⌜ r ≡ writing (listing (unfilled (upstream .bytes)) (unfilled (target .bytes)) way (machine .states) (4 + machine .ups) (rowOf (now (rows .entry))) (now (output .entry)) fences) fences 0 (length (now (out .entry))) ⌝ }
-    ensures buffer { λ _. ⌜ now (out .exit) ≡ written (listing (unfilled (upstream .bytes)) (unfilled (target .bytes)) way (machine .states) (4 + machine .ups) (rowOf (now (rows .entry))) (now (output .entry)) fences) (now (out .entry)) ⌝ }
+    ensures answer { λ r. ⌜ r ≡ answerWith (listing (unfilled (upstream .bytes)) (unfilled (target .bytes)) way (machine .states) (4 + machine .ups) (rowOf (now (rows .entry))) (now (output .entry)) fences) fences 0 (length (now (out .entry))) ⌝ }
+    ensures buffer { λ _. ⌜ now (out .exit) ≡ bufferWith (listing (unfilled (upstream .bytes)) (unfilled (target .bytes)) way (machine .states) (4 + machine .ups) (rowOf (now (rows .entry))) (now (output .entry)) fences) (now (out .entry)) ⌝ }
 {
     let mut text = [0u8; 73728];
     let n = print::put_listing(
@@ -156,7 +156,7 @@ fn list_parts<'a>(
     match answer {
         Answer::Refused(why) => Answer::Refused(why),
         Answer::Done {
-            written,
+            bufferWith,
             fences,
             state: _,
         } => list_run(way, upstream, target, &output[..written], fences, out),

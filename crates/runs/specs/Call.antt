@@ -9,7 +9,7 @@ use lib.Dec.{ltb, eqb}
 use lib.ListN.{length, take}
 use Rattle.answers.specs.declared.Refusal.{Refusal}
 use Rattle.answers.specs.declared.Answer.{Answer}
-use Rattle.answers.specs.Written.{written, writing}
+use Rattle.answers.specs.Buffer.{bufferWith, answerWith}
 use Rattle.answers.specs.declared.Verdict.{Verdict}
 use Rattle.rule.specs.declared.way.Way.{Way}
 use Rattle.rule.specs.Pairs.{Model}
@@ -58,9 +58,9 @@ outcome way upstream target stream = onWay (wayOf way) (λ (w : Way). under w up
 
 -- what the call answers where the buffer has room for so many bytes, and what the buffer holds then
 abbrev pub answerOf : Outcome → ℕ → Answer
-answerOf (put bytes) room = writing bytes (fenceBytes bytes) 0 room
+answerOf (put bytes) room = answerWith bytes (fenceBytes bytes) 0 room
 answerOf (refuse why) room = Answer.Refused why
 
 abbrev pub bufferOf : Outcome → List ℕ → List ℕ
-bufferOf (put bytes) out = written bytes out
+bufferOf (put bytes) out = bufferWith bytes out
 bufferOf (refuse why) out = out

@@ -5,7 +5,7 @@ use mathlib.Core.List.{List}
 use lib.ListN.{length}
 use Rattle.answers.specs.declared.Refusal.{Refusal}
 use Rattle.answers.specs.declared.Answer.{Answer}
-use Rattle.answers.specs.Written.{written, writing}
+use Rattle.answers.specs.Buffer.{bufferWith, answerWith}
 use Rattle.answers.specs.declared.Verdict.{Verdict}
 use Rattle.models.specs.declared.model.Reading.{Reading}
 use Rattle.models.specs.Text.{textOf}
@@ -28,7 +28,7 @@ pub after-refused : (v : Verdict) (why : Refusal) (x out : List ℕ) → v ≡ V
 unfolding answerAfter bufferAfter
 after-refused v why x out e = (ap (λ (w : Verdict). answerAfter w x out) (sym e), ap (λ (w : Verdict). bufferAfter w x out) (sym e))
 
-pub after-accepted : (v : Verdict) (x out : List ℕ) {a : Answer} {o : List ℕ} → v ≡ Verdict.Accepted → a ≡ writing x 0 0 (length out) → o ≡ written x out
+pub after-accepted : (v : Verdict) (x out : List ℕ) {a : Answer} {o : List ℕ} → v ≡ Verdict.Accepted → a ≡ answerWith x 0 0 (length out) → o ≡ bufferWith x out
     → (a ≡ answerAfter v x out) × (o ≡ bufferAfter v x out)
 unfolding answerAfter bufferAfter
 after-accepted v x out e p q = (p ∙ ap (λ (w : Verdict). answerAfter w x out) (sym e), q ∙ ap (λ (w : Verdict). bufferAfter w x out) (sym e))

@@ -4,14 +4,14 @@ use Prim.Native.Nat.{ℕ}
 use mathlib.Core.List.{List}
 use lib.ListN.{length}
 use Rattle.answers.specs.declared.Answer.{Answer}
-use Rattle.answers.specs.Written.{written, writing}
+use Rattle.answers.specs.Buffer.{bufferWith, answerWith}
 use Rattle.answers.specs.declared.Verdict.{Verdict}
 
 -- the answer and the buffer, where writing the text follows a reading
 unfoldable pub answerAfter : Verdict → List ℕ → List ℕ → Answer
-answerAfter Verdict.Accepted text out = writing text 0 0 (length out)
+answerAfter Verdict.Accepted text out = answerWith text 0 0 (length out)
 answerAfter (Verdict.Refused why) text out = Answer.Refused why
 
 unfoldable pub bufferAfter : Verdict → List ℕ → List ℕ → List ℕ
-bufferAfter Verdict.Accepted text out = written text out
+bufferAfter Verdict.Accepted text out = bufferWith text out
 bufferAfter (Verdict.Refused why) text out = out

@@ -3,7 +3,7 @@ mod parts;
 
 ghost use mathlib.Core.Path.{_≡_};
 ghost use lib.ListN.{length};
-ghost use Rattle.answers.specs.Written.{written, writing};
+ghost use Rattle.answers.specs.Buffer.{bufferWith, answerWith};
 ghost use Rattle.models.specs.Text.{textOf};
 ghost use Rattle.models.specs.Reading.{reading};
 ghost use Rattle.writing.specs.Writing.{described};
@@ -15,8 +15,8 @@ use models::model::Reading;
 
 // The model's text in the buffer, or nothing where it does not fit.
 pub fn write(model: Model, out: &mut [u8]) -> Answer
-    ensures answer { λ r. ⌜ r ≡ writing (textOf (described model)) 0 0 (length (now (out .entry))) ⌝ }
-    ensures buffer { λ _. ⌜ now (out .exit) ≡ written (textOf (described model)) (now (out .entry)) ⌝ }
+    ensures answer { λ r. ⌜ r ≡ answerWith (textOf (described model)) 0 0 (length (now (out .entry))) ⌝ }
+    ensures buffer { λ _. ⌜ now (out .exit) ≡ bufferWith (textOf (described model)) (now (out .entry)) ⌝ }
 {
     let mut buf = [0u8; 1024];
     let n = parts::put_model(&mut buf, model);

@@ -6,7 +6,7 @@ use native.Mathlib.Omega.{arith}
 use borrow.Author.Needs.{needs}
 use denote.Ref.{now}
 use lib.ListN.{length, take, drop, getD, set, length-set}
-use Rattle.answers.proofs.Laws.{written-not, writing-fits, writing-not, copied-more, copied-all}
+use Rattle.answers.proofs.Laws.{buffer-not, answer-fits, answer-not, copied-more, copied-all}
 use Rattle.answers.proofs.write_out.Statement.{statement}
 use Rattle.answers.proofs.write_out.Tie as tie
 
@@ -20,8 +20,8 @@ returns : tie.Need-returns Inv-loop μ-loop
 returns c =
     let a = c .before .args in
     record {
-      answer = sym (writing-not (now (a .text)) (a .fences) (a .state) (length (now (a .out))) (c .if1 .taken));
-      buffer = sym (written-not (now (a .text)) (now (a .out)) (c .if1 .taken));
+      answer = sym (answer-not (now (a .text)) (a .fences) (a .state) (length (now (a .out))) (c .if1 .taken));
+      buffer = sym (buffer-not (now (a .text)) (now (a .out)) (c .if1 .taken));
     }
 
 loop-holds : tie.Need-loop-holds Inv-loop μ-loop
@@ -59,7 +59,7 @@ returns-2 c =
     let a = c .before .before .before .args in
     let l = c .before .loop in
     record {
-      answer = sym (writing-fits (now (a .text)) (a .fences) (a .state) (length (now (a .out))) (omega arith));
+      answer = sym (answer-fits (now (a .text)) (a .fences) (a .state) (length (now (a .out))) (omega arith));
       buffer = copied-all (now (a .text)) (now (a .out)) (l .out) (l .i) (omega arith) (omega arith) (l .inv .4);
     }
 

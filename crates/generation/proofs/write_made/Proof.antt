@@ -3,7 +3,7 @@ use mathlib.Core.Path.{refl, subst, ap, _∙_}
 use borrow.Author.Needs.{needs}
 use denote.Ref.{now}
 use lib.ListN.{length}
-use Rattle.answers.specs.Written.{written, writing}
+use Rattle.answers.specs.Buffer.{bufferWith, answerWith}
 use Rattle.image.specs.declared.machine.Header.{Header}
 use Rattle.image.specs.Image.{imageOf}
 use Rattle.generation.specs.Generating.{SmallMade}
@@ -39,8 +39,8 @@ returns c =
     let h = c .before .before .before .before .header-for .ensures in
     let w = c .before .before .write .ensures in
     answers-so (a .upstream) (a .target) (now (a .rows)) (now (a .out)) (c .before .before .before .before .before .before .made .given .1) (
-      w .0 ∙ ap (λ (x : Header). writing (imageOf x (now (a .rows))) 0 0 (length (now (a .out)))) h,
-      w .1 ∙ ap (λ (x : Header). written (imageOf x (now (a .rows))) (now (a .out))) h,
+      w .0 ∙ ap (λ (x : Header). answerWith (imageOf x (now (a .rows))) 0 0 (length (now (a .out)))) h,
+      w .1 ∙ ap (λ (x : Header). bufferWith (imageOf x (now (a .rows))) (now (a .out))) h,
     )
 
 returns-2 : tie.Need-returns-2

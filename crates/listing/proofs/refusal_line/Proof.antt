@@ -7,7 +7,7 @@ use borrow.Author.Needs.{needs}
 use denote.Ref.{now}
 use lib.ListN.{length}
 use lib.Seq.{length-take-le}
-use Rattle.answers.specs.Written.{written, writing}
+use Rattle.answers.specs.Buffer.{bufferWith, answerWith}
 use Rattle.listing.proofs.refusal_line.Statement.{statement}
 use Rattle.listing.proofs.refusal_line.Tie as tie
 
@@ -33,7 +33,7 @@ returns : tie.Need-returns
 returns c = let o = length (now (c .before .before .before .before .before .before .before .before .before .args .out)) in
     let w = c .before .before .write-out .ensures in
     let e = c .before .before .before .before .before .before .put-refusal .ensures .0 .bytes in
-    (w .0 ∙ ap (λ (t : List ℕ). writing t 0 0 o) e, w .1 ∙ ap (λ (t : List ℕ). written t (now (c .before .before .before .before .before .before .before .before .before .args .out))) e)
+    (w .0 ∙ ap (λ (t : List ℕ). answerWith t 0 0 o) e, w .1 ∙ ap (λ (t : List ℕ). bufferWith t (now (c .before .before .before .before .before .before .before .before .before .args .out))) e)
 
 pub refusal-line-spec : {M : Type 1} → statement M
 refusal-line-spec =

@@ -7,7 +7,7 @@ use borrow.Author.Needs.{needs}
 use denote.Ref.{now}
 use lib.ListN.{length}
 use lib.Seq.{length-take-le}
-use Rattle.answers.specs.Written.{written, writing}
+use Rattle.answers.specs.Buffer.{bufferWith, answerWith}
 use Rattle.listing.proofs.write_listing.Statement.{statement}
 use Rattle.listing.proofs.write_listing.Tie as tie
 
@@ -33,7 +33,7 @@ returns : tie.Need-returns
 returns c = let a = c .before .before .before .before .before .before .before .before .before .before .before .args in
     let w = c .before .before .write-out .ensures in
     let e = c .before .before .before .before .before .before .put-listing .ensures .0 .bytes in
-    (w .0 ∙ ap (λ (t : List ℕ). writing t (a .fences) 0 (length (now (a .out)))) e, w .1 ∙ ap (λ (t : List ℕ). written t (now (a .out))) e)
+    (w .0 ∙ ap (λ (t : List ℕ). answerWith t (a .fences) 0 (length (now (a .out)))) e, w .1 ∙ ap (λ (t : List ℕ). bufferWith t (now (a .out))) e)
 
 pub write-listing-spec : {M : Type 1} → statement M
 write-listing-spec =

@@ -5,7 +5,7 @@ use borrow.Author.Needs.{needs}
 use denote.Ref.{now}
 use lib.ListN.{length, take}
 use lib.Seq.{length-take-le}
-use Rattle.answers.specs.Written.{writing}
+use Rattle.answers.specs.Buffer.{answerWith}
 use Rattle.runs.specs.declared.Ended.{Ended}
 use Rattle.runs.specs.Call.{answerOf, bufferOf}
 use Rattle.runs.specs.Moves.{given, Fits}
@@ -38,7 +38,7 @@ returns c =
     let w = c .before .before .write-out in
     let e = sym (c .before .before .before .before .before .before .before .ended .given .1) in (
       w .ensures .0
-          ∙ ap (λ (n : ℕ). writing (take (c .before .before .before .before .before .before .before .ended .given .0 .0) (now (a .buffer))) n 0 (length (now (a .out)))) (c .before .before .before .before .fences-in .ensures)
+          ∙ ap (λ (n : ℕ). answerWith (take (c .before .before .before .before .before .before .before .ended .given .0 .0) (now (a .buffer))) n 0 (length (now (a .out)))) (c .before .before .before .before .fences-in .ensures)
           ∙ ap (λ (x : Ended). answerOf (given x (now (a .buffer))) (length (now (a .out)))) e,
       w .ensures .1 ∙ ap (λ (x : Ended). bufferOf (given x (now (a .buffer))) (now (a .out))) e,
     )

@@ -4,7 +4,7 @@ use mathlib.Core.Path.{sym, subst, _∙_}
 use borrow.Author.Needs.{needs}
 use lib.Seq.{length-take-le}
 use Rattle.listing.specs.Printed.{refusalLine}
-use Rattle.listing.proofs.Fits.{writing-within}
+use Rattle.listing.proofs.Fits.{answer-within}
 use Rattle.show.proofs.show_refusal.Statement.{statement}
 use Rattle.show.proofs.show_refusal.Tie as tie
 
@@ -19,12 +19,12 @@ enum-known-answer c = search needs
 
 array-share-prefix-line : tie.Need-array-share-prefix-line
 array-share-prefix-line c = let l = c .before .before .before .before .refusal-line in
-    subst (λ (n : ℕ). c .before .answer .given .0 .0 ≤ n) (sym (l .kept .1 .0)) (writing-within (refusalLine (c .before .before .before .before .before .before .args .why)) 0 0 53 (sym (c .before .answer .given .1) ∙ l .ensures .0))
+    subst (λ (n : ℕ). c .before .answer .given .0 .0 ≤ n) (sym (l .kept .1 .0)) (answer-within (refusalLine (c .before .before .before .before .before .before .args .why)) 0 0 53 (sym (c .before .answer .given .1) ∙ l .ensures .0))
 
 slice-aggregate-write-all : tie.Need-slice-aggregate-write-all
 slice-aggregate-write-all c = let l = c .before .before .before .before .before .refusal-line in
     sym (length-take-le _ (l .last .1 .0)
-    (subst (λ (n : ℕ). c .before .before .answer .given .0 .0 ≤ n) (sym (l .kept .1 .0)) (writing-within (refusalLine (c .before .before .before .before .before .before .before .args .why)) 0 0 53 (sym (c .before .before .answer .given .1) ∙ l .ensures .0))))
+    (subst (λ (n : ℕ). c .before .before .answer .given .0 .0 ≤ n) (sym (l .kept .1 .0)) (answer-within (refusalLine (c .before .before .before .before .before .before .before .args .why)) 0 0 53 (sym (c .before .before .answer .given .1) ∙ l .ensures .0))))
 
 write-all-requires : tie.Need-write-all-requires
 write-all-requires c κs = search needs

@@ -7,7 +7,7 @@ use borrow.Author.Needs.{needs}
 use denote.Ref.{now}
 use lib.ListN.{length, take}
 use lib.Seq.{length-take-le}
-use Rattle.answers.specs.Written.{written, writing}
+use Rattle.answers.specs.Buffer.{bufferWith, answerWith}
 use Rattle.models.specs.Text.{textOf}
 use Rattle.writing.specs.Writing.{described}
 use Rattle.writing.proofs.write.Statement.{statement}
@@ -38,8 +38,8 @@ returns c =
     let m = c .before .before .before .before .before .before .before .before .before .args .model in
     let out = now (c .before .before .before .before .before .before .before .before .before .args .out) in
     let text : take (p .result) (p .last .0) ≡ textOf (described m) = p .ensures .0 .bytes in (
-      w .ensures .0 ∙ ap (λ (t : List ℕ). writing t 0 0 (length out)) text,
-      w .ensures .1 ∙ ap (λ (t : List ℕ). written t out) text,
+      w .ensures .0 ∙ ap (λ (t : List ℕ). answerWith t 0 0 (length out)) text,
+      w .ensures .1 ∙ ap (λ (t : List ℕ). bufferWith t out) text,
     )
 
 pub write-spec : {M : Type 1} → statement M

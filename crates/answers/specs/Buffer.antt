@@ -9,9 +9,9 @@ use Rattle.answers.specs.declared.Refusal.{Refusal}
 use Rattle.answers.specs.declared.Answer.{Answer}
 
 -- the buffer after bytes have been written to it
-unfoldable pub written : List ℕ → List ℕ → List ℕ
-written text out = cond (leb (length text) (length out)) (text ++ drop (length text) out) out
+unfoldable pub bufferWith : List ℕ → List ℕ → List ℕ
+bufferWith text out = cond (leb (length text) (length out)) (text ++ drop (length text) out) out
 
 -- the answer of a call that writes text, with its fences and its end state, where the buffer has room for so many bytes
-unfoldable pub writing : List ℕ → ℕ → ℕ → ℕ → Answer
-writing text fences state room = cond (leb (length text) room) (Answer.Done (length text) fences state) (Answer.Refused Refusal.BufferTooSmall)
+unfoldable pub answerWith : List ℕ → ℕ → ℕ → ℕ → Answer
+answerWith text fences state room = cond (leb (length text) room) (Answer.Done (length text) fences state) (Answer.Refused Refusal.BufferTooSmall)
