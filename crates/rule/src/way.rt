@@ -6,6 +6,7 @@ ghost use Rattle.tables.specs.Table.{atLeast};
 ghost use Rattle.rule.specs.Pairs.{tableAt};
 ghost use Rattle.rule.specs.Rule.{wayNumber, lowest, last};
 ghost use Rattle.rule.specs.Situation.{choiceOf, stepped};
+ghost use Rattle.rule.specs.Sides.{targetOf};
 use crate::situation::Situation;
 use operations::Kind;
 use tables::table::Table;
@@ -13,6 +14,13 @@ use tables::table::Table;
 pub enum Way {
     Sparing,
     Full,
+}
+
+// What stays the same through a run, but for the fences' tables, which are lent beside it: the way and the two defaults.
+pub struct Shim {
+    pub way: Way,
+    pub upstream: Table,
+    pub target: Table,
 }
 
 // What a way puts before an access.
@@ -92,23 +100,17 @@ fn last_fence(fences: &[u64], pending: Table) -> Choice
     }
 }
 
-// An access of this kind, in this situation, with the two defaults and the target's fences.
-pub fn take(
-    way: Way,
-    upstream: Table,
-    target: Table,
-    fences: &[u64],
-    situation: Situation,
-    kind: Kind,
-) -> Step
-    ensures { λ r. ⌜ r ≡ stepped way upstream (record { ppo = target; fences = now (fences .entry) }) situation kind ⌝ }
+// An access of this kind, in this situation, with the target's fences.
+pub fn take(shim: Shim, fences: &[u64], situation: Situation, kind: Kind) -> Step
+    ensures { λ r. ⌜ r ≡ stepped (shim .way) (shim .upstream) (targetOf shim (now (fences .entry))) situation kind ⌝ }
 {
+    let way = shim.way;
     let choice = choose(way, fences, situation.pending(kind));
     match choice {
-        Choice::Nothing => Step::Plain(situation.joins(upstream, target, kind)),
+        Choice::Nothing => Step::Plain(situation.joins(shim.upstream, shim.target, kind)),
         Choice::Fence(g) => {
             let offered = situation.offers(fence_table(fences, g));
-            Step::Fenced(g, offered.joins(upstream, target, kind))
+            Step::Fenced(g, offered.joins(shim.upstream, shim.target, kind))
         }
         Choice::Refused => Step::Refused,
     }

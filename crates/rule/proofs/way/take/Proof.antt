@@ -1,7 +1,5 @@
 -- `take` meets its contract: at each arm the choice says which step it is. Assumes nothing.
-use Prim.Native.Nat.{ℕ}
 use mathlib.Core.Path.{_≡_, sym, ap, _∙_}
-use mathlib.Core.List.{List}
 use borrow.Author.Needs.{needs}
 use denote.Ref.{now}
 use Rattle.tables.specs.declared.table.Table.{Table}
@@ -12,6 +10,7 @@ use Rattle.rule.specs.declared.way.Choice.{Choice}
 use Rattle.rule.specs.declared.way.Step.{Step}
 use Rattle.rule.specs.Pairs.{Model}
 use Rattle.rule.specs.Situation.{joins, offers, pending, choiceOf, stepOf, stepped}
+use Rattle.rule.specs.Sides.{targetOf}
 use Rattle.rule.proofs.way.take.Statement.{statement}
 use Rattle.rule.proofs.way.take.Tie as tie
 
@@ -47,16 +46,13 @@ by-choice : (way : Way) (up : Table) (t : Model) (s : Situation) (k : Kind) (c :
     → r ≡ choiceOf way (t .fences) p → p ≡ pending k s → r ≡ c → stepped way up t s k ≡ stepOf up t s k c
 by-choice way up t s k c e f g = ap (stepOf up t s k) (sym (e ∙ ap (choiceOf way (t .fences)) f) ∙ g)
 
-abbrev target : Table → List ℕ → Model
-target ppo fences = record { ppo = ppo; fences = fences }
-
 returns : tie.Need-returns
 returns c =
     let a = c .before .before .before .before .before .before .args in
     let o = c .before .before .before in
     ap Step.Plain (c .joins .ensures)
     ∙ sym
-    (by-choice (a .way) (a .upstream) (target (a .target) (now (a .fences))) (a .situation) (a .kind) Choice.Nothing
+    (by-choice (a .shim .way) (a .shim .upstream) (targetOf (a .shim) (now (a .fences))) (a .situation) (a .kind) Choice.Nothing
     (o .choose .ensures) (o .before .pending .ensures) (c .before .enum-told .given .1))
 
 returns-2 : tie.Need-returns-2
@@ -65,10 +61,10 @@ returns-2 c =
     let o = c .before .before .before .before .before .before in
     ap (Step.Fenced (c .before .before .before .before .choice .given .0 .0))
     (c .joins2 .ensures
-    ∙ ap (joins (a .upstream) (a .target) (a .kind))
+    ∙ ap (joins (a .shim .upstream) (a .shim .target) (a .kind))
     (c .before .offers .ensures ∙ ap (λ (t : Table). offers t (a .situation)) (c .before .before .fence-table .ensures)))
     ∙ sym
-    (by-choice (a .way) (a .upstream) (target (a .target) (now (a .fences))) (a .situation) (a .kind) (Choice.Fence _)
+    (by-choice (a .shim .way) (a .shim .upstream) (targetOf (a .shim) (now (a .fences))) (a .situation) (a .kind) (Choice.Fence _)
     (o .choose .ensures) (o .before .pending .ensures) (c .before .before .before .before .choice .given .1))
 
 returns-3 : tie.Need-returns-3
@@ -76,7 +72,7 @@ returns-3 c =
     let a = c .before .before .before .before .before .args in
     let o = c .before .before in
     sym
-    (by-choice (a .way) (a .upstream) (target (a .target) (now (a .fences))) (a .situation) (a .kind) Choice.Refused
+    (by-choice (a .shim .way) (a .shim .upstream) (targetOf (a .shim) (now (a .fences))) (a .situation) (a .kind) Choice.Refused
     (o .choose .ensures) (o .before .pending .ensures) (c .enum-told2 .given .1))
 
 pub take-spec : {M : Type 1} → statement M
