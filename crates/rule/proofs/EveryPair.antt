@@ -8,9 +8,9 @@ use lib.ListN.{length}
 use Rattle.operations.specs.declared.Kind.{Kind}
 use Rattle.rule.specs.declared.way.Way.{Way}
 use Rattle.rule.specs.Stream.{Stream, access, fence, accesses, count, kindAt, after, between}
-use Rattle.rule.specs.Pairs.{Model, isRow, isColumn, highest, Kept, Keeps}
+use Rattle.rule.specs.Pairs.{Model, isRow, isColumn, highest, Kept, Keeps, Settled}
 use Rattle.rule.proofs.Streams.{count-fence, count-access, kind-append, kind-next, before-append, before-next, same-fence}
-use Rattle.rule.proofs.Kept.{Settled, settled-means}
+use Rattle.rule.proofs.Kept.{settled-means}
 use Rattle.rule.proofs.Choices.{rule-nothing, fence-will-do}
 use Rattle.rule.proofs.Reach.{Reach, fresh, passed, plain, fenced, reach-same}
 
