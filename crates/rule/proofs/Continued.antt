@@ -43,7 +43,8 @@ module _ (way : Way) (up target : Model) where
 
   -- one operation, and what it put out, before a run that is continued
   next : (op : Operation) (put s x input output output′ : Stream) → ((out : Stream) → output′ ++ out ≡ output ++ (put ++ out))
-      → go (input ++ op ∷ []) output′ (s ++ x) ≡ then (length s) (go (input ++ op ∷ []) output′ s) (λ (out : Stream). go (input ++ op ∷ [] ++ s) (output′ ++ out) x)
+      → go (input ++ op ∷ []) output′ (s ++ x)
+      ≡ then (length s) (go (input ++ op ∷ []) output′ s) (λ (out : Stream). go (input ++ op ∷ [] ++ s) (output′ ++ out) x)
       → behind put (go (input ++ op ∷ []) output′ (s ++ x))
       ≡ then (suc (length s)) (behind put (go (input ++ op ∷ []) output′ s)) (λ (out : Stream). go (input ++ op ∷ s) (output ++ out) x)
   next op put s x input output output′ grows h =
@@ -65,7 +66,8 @@ module _ (way : Way) (up target : Model) where
       (λ (g : ℕ). behind (fence g ++ access k) (go (input ++ access k) (output ++ (fence g ++ access k)) s))
       (next (Operation.Access k) (access k) s x input output (output ++ access k) (append-assoc output (access k))
       (continued s x (input ++ access k) (output ++ access k)))
-      (λ g. next (Operation.Access k) (fence g ++ access k) s x input output (output ++ (fence g ++ access k)) (append-assoc output (fence g ++ access k))
+      (λ g. next (Operation.Access k) (fence g ++ access k) s x input output (output ++ (fence g ++ access k))
+      (append-assoc output (fence g ++ access k))
       (continued s x (input ++ access k) (output ++ (fence g ++ access k))))
       (rule way up target input output k)
     where
@@ -78,7 +80,7 @@ module _ (way : Way) (up target : Model) where
       at p q f g e h (Choice.Fence n) = h n
       at p q f g e h Choice.Refused = refl
 
-  -- a refusal: the stream up to the access is accepted, and there the rule refuses
+  -- stuck at a place: the stream up to the access there is accepted, and there the rule refuses
   pub record StuckAt (input output s : Stream) (place : ℕ) : Type 0 where
     pub first : Stream
     pub kind : Kind
@@ -101,9 +103,10 @@ module _ (way : Way) (up target : Model) where
 
   pub stuck-refused : (input output s : Stream) (place : ℕ) → StuckAt input output s place → onward way up target input output s ≡ refused place
   stuck-refused input output s place f =
+      let left : Stream = Operation.Access (f .kind) ∷ f .rest in
       ap (onward way up target input output) (f .split)
-      ∙ continued (f .first) (Operation.Access (f .kind) ∷ f .rest) input output
-      ∙ ap (λ (x : Ran). then (length (f .first)) x (λ (out : Stream). onward way up target (input ++ f .first) (output ++ out) (Operation.Access (f .kind) ∷ f .rest)))
+      ∙ continued (f .first) left input output
+      ∙ ap (λ (x : Ran). then (length (f .first)) x (λ (out : Stream). onward way up target (input ++ f .first) (output ++ out) left))
       (f .accepted)
       ∙ ap (follows (length (f .first)) (f .out)) (stops (input ++ f .first) (output ++ f .out) (f .kind) (f .rest) (f .stuck))
       ∙ ap refused (add-zero (length (f .first)) ∙ f .index)
@@ -113,8 +116,10 @@ module _ (way : Way) (up target : Model) where
   behind-refused put p (refused q) e = (q, refl, (cc))
 
   -- a refusal further on, with one operation before it
-  later : (op : Operation) (put s input output output′ : Stream) (p q : ℕ) → ((out : Stream) → output′ ++ out ≡ output ++ (put ++ out)) → suc q ≡ p
-      → ((out : Stream) (x : Stream) → onward way up target (input ++ op ∷ []) output′ x ≡ done out → onward way up target input output (op ∷ x) ≡ done (put ++ out))
+  later : (op : Operation) (put s input output output′ : Stream) (p q : ℕ)
+      → ((out : Stream) → output′ ++ out ≡ output ++ (put ++ out)) → suc q ≡ p
+      → ((out x : Stream) → onward way up target (input ++ op ∷ []) output′ x ≡ done out
+      → onward way up target input output (op ∷ x) ≡ done (put ++ out))
       → StuckAt (input ++ op ∷ []) output′ s q → StuckAt input output (op ∷ s) p
   later op put s input output output′ p q grows e goes f =
       record {
@@ -126,7 +131,8 @@ module _ (way : Way) (up target : Model) where
         index = ap suc (f .index) ∙ e;
         accepted = goes (f .out) (f .first) (f .accepted);
         stuck =
-            ap₂ (λ (i o : Stream). rule way up target i o (f .kind)) (sym (append-assoc input (op ∷ []) (f .first))) (sym (grows (f .out))) ∙ f .stuck;
+            ap₂ (λ (i o : Stream). rule way up target i o (f .kind))
+            (sym (append-assoc input (op ∷ []) (f .first))) (sym (grows (f .out))) ∙ f .stuck;
       }
 
   pub refused-stuck : (s input output : Stream) (place : ℕ) → onward way up target input output s ≡ refused place → StuckAt input output s place

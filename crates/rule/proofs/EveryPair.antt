@@ -33,14 +33,16 @@ module _ (up target : Model) where
       (ap (after i) (before-append j input x m)) (ap (after i) (before-append j output y (omega (arith, ap length same))))
       (h i j l m)
 
-  keeps-passed : (input output : Stream) (n : ℕ) → accesses output ≡ accesses input → Keeps up target input output → Keeps up target (input ++ fence n) output
+  keeps-passed : (input output : Stream) (n : ℕ) → accesses output ≡ accesses input → Keeps up target input output
+      → Keeps up target (input ++ fence n) output
   keeps-passed input output n same h i j l m =
       kept-by input output (input ++ fence n) output i j
       (kind-append input (fence n) i (omega (arith, count-fence input n))) (kind-append input (fence n) j (omega (arith, count-fence input n)))
       (ap (after i) (before-append j input (fence n) (omega (arith, count-fence input n)))) refl
       (h i j l (omega (arith, count-fence input n)))
 
-  keeps-put : (input output : Stream) (g : ℕ) → accesses output ≡ accesses input → Keeps up target input output → Keeps up target input (output ++ fence g)
+  keeps-put : (input output : Stream) (g : ℕ) → accesses output ≡ accesses input → Keeps up target input output
+      → Keeps up target input (output ++ fence g)
   keeps-put input output g same h i j l m =
       kept-by input output input (output ++ fence g) i j refl refl refl
       (ap (after i) (before-append j output (fence g) (omega (arith, ap length same)))) (h i j l m)

@@ -36,12 +36,14 @@ Here = tie.After-pick-bits2
 -- the two planes, and that the code has them
 abbrev high-cells : Here → ℕ → ℕ
 high-cells c =
-    let a = c .before .before .before .before .before .before .before .args in
+    let o = c .before .before .before in
+    let a = o .before .before .before .before .args in
     pickedHighs (a .a .packed) (a .b .packed) (a .x .packed) (a .y .packed)
 
 abbrev low-cells : Here → ℕ → ℕ
 low-cells c =
-    let a = c .before .before .before .before .before .before .before .args in
+    let o = c .before .before .before in
+    let a = o .before .before .before .before .args in
     pickedLows (a .a .packed) (a .b .packed) (a .x .packed) (a .y .packed)
 
 high : (c : Here) → c .before .before .before .pick-bits .result ≡ packed (high-cells c) 16
@@ -55,7 +57,8 @@ high c =
 
 low : (c : Here) → c .pick-bits2 .result ≡ packed (low-cells c) 16
 low c =
-    let e = c .before .before .before .before .before .before in
+    let o = c .before .before .before in
+    let e = o .before .before .before in
     let a = e .before .args in
     c .pick-bits2 .ensures
     ∙ low-from (a .a .packed) (a .b .packed) (a .x .packed) (a .y .packed) _ (e .exceeds .ensures) _ _
@@ -69,7 +72,8 @@ add-t9 c = omega (arith, plane-fits _ (high-cells c) (high c), plane-fits _ (low
 
 returns : tie.Need-returns
 returns c =
-    let a = c .before .before .before .before .before .before .before .args in
+    let o = c .before .before .before in
+    let a = o .before .before .before .before .args in
     ap (λ (n : ℕ). record { packed = n })
     (ap₂ (λ (h l : ℕ). 2 * h + l) (high c) (low c) ∙ picked-joined (a .a .packed) (a .b .packed) (a .x .packed) (a .y .packed))
     ∙ picked-places (a .a) (a .b) (a .x) (a .y)
