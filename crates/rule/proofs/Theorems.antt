@@ -87,6 +87,7 @@ module _ (up target : Model) (input output : Stream) (accepted : run Way.Full up
   pub fewest-fences : (other : Stream) → Placing target input other → Keeps up target input other → fences output ≤ fences other
   fewest-fences other p h = reach-fewest up target (run-reach Way.Full up target input output accepted) other (p .same) h
 
+-- the same of any stretch: by its fences in turn, the higher of a fence and the rest is one of the two
 highest-one : (m : Model) (r : Row) (c : Column) (s : Stream)
     → (highest m r c s ≡ cell (m .ppo) r c) ⊎ ((g : ℕ) × HasFence g s × (highest m r c s ≡ cell (fenceTable m g) r c))
 highest-one m r c [] = inl refl

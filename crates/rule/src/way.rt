@@ -61,7 +61,7 @@ pub fn fence_table(fences: &[u64], number: usize) -> Table
 }
 
 // What the way puts before an access that needs `pending`.
-pub fn choose(way: Way, fences: &[u64], pending: Table) -> Choice
+fn choose(way: Way, fences: &[u64], pending: Table) -> Choice
     ensures { λ r. ⌜ r ≡ choiceOf way (now (fences .entry)) pending ⌝ }
 {
     if Table::NONE.at_least(pending) {
