@@ -6,6 +6,8 @@ use mathlib.Core.List.{List, _++_}
 use native.Mathlib.Decide.{decLt}
 use native.Mathlib.Omega.{arith}
 use lib.ListN.{length}
+use Rattle.ground.specs.declared.Found.{Found}
+use Rattle.ground.specs.Lowest.{lowest}
 use Rattle.ground.proofs.Truths.{differ}
 use Rattle.tables.specs.declared.table.Table.{Table}
 use Rattle.tables.specs.Table.{atLeast}
@@ -13,29 +15,16 @@ use Rattle.operations.specs.declared.Kind.{Kind}
 use Rattle.rule.specs.declared.way.Way.{Way}
 use Rattle.rule.specs.declared.way.Choice.{Choice}
 use Rattle.rule.specs.Stream.{Stream, fence}
-use Rattle.rule.specs.Pairs.{Model, tableAt, settled}
-use Rattle.rule.specs.Rule.{lowest, last, pick, rule, Ran, refused}
-use Rattle.rule.specs.Situation.{none, choiceOf}
+use Rattle.rule.specs.Pairs.{Model, settled}
+use Rattle.rule.specs.Rule.{taken, last, pick, Takes, NoneWillDo, rule, Ran, refused}
+use Rattle.rule.specs.Situation.{none, serves, choiceOf}
 use Rattle.rule.proofs.Folds.{not-both}
 
 -- how a run goes on after a choice
 abbrev pub goes-on : Ran → (ℕ → Ran) → Choice → Ran
 goes-on plain fenced c = elim c as (λ x. Ran) [ Choice.Nothing ↦ plain | Choice.Fence g ↦ fenced g | Choice.Refused ↦ refused 0 ]
 
--- "the lowest-numbered target fence that leaves none of these pairs short", "the highest-numbered fence, if that leaves none short"
-abbrev pub Takes : Way → (ℕ → Bool) → ℕ → ℕ → Type 0
-Takes Way.Sparing f n g = (g < n) × (f g ≡ true) × ((h : ℕ) → h < g → f h ≡ false)
-Takes Way.Full f n g = (suc g ≡ n) × (f g ≡ true)
-
--- no fence will do for the way
-abbrev pub NoneWillDo : Way → (ℕ → Bool) → ℕ → Type 0
-NoneWillDo Way.Sparing f n = (g : ℕ) → g < n → f g ≡ false
-NoneWillDo Way.Full f n = (g : ℕ) → suc g ≡ n → f g ≡ false
-
--- which of these fences will do for what is pending, and what a test of one says of it
-abbrev pub serves : List ℕ → Table → ℕ → Bool
-serves fences pending g = atLeast (tableAt fences g) pending
-
+-- what a test of a fence says of it
 pub told : (pending : Table) {t u : Table} {b d : Bool} → t ≡ u → b ≡ atLeast t pending → b ≡ d → atLeast u pending ≡ d
 told pending e f g = sym (f ∙ ap (λ (x : Table). atLeast x pending) e) ∙ g
 
@@ -48,91 +37,81 @@ module _ (way : Way) (fences : List ℕ) (pending : Table) where
   unfolding choiceOf
   choice-pick e = ap (λ (b : Bool). cond b Choice.Nothing (pick way (serves fences pending) (length fences))) e
 
+-- what was found, told by what is taken
+taken-fence : (x : Found) (g : ℕ) → taken x ≡ Choice.Fence g → x ≡ Found.At g
+taken-fence (Found.At i) g e = cc
+taken-fence Found.Nowhere g e = differ (cc)
+
+taken-refused : (x : Found) → taken x ≡ Choice.Refused → x ≡ Found.Nowhere
+taken-refused (Found.At i) e = differ (cc)
+taken-refused Found.Nowhere e = refl
+
+taken-some : (x : Found) → taken x ≡ Choice.Nothing → ⊥
+taken-some (Found.At i) e = differ (cc)
+taken-some Found.Nowhere e = differ (cc)
+
 module _ (f : ℕ → Bool) where
-  -- the search for the lowest, one fence at a time
-  pub lowest-found : (i n : ℕ) → i < n → f i ≡ true → lowest f i (n - i) ≡ Choice.Fence i
-  lowest-found i n l p =
-      let e : n - i ≡ suc (n - (i + 1)) = omega arith in
-      ap (lowest f i) e ∙ ap (λ (b : Bool). cond b (Choice.Fence i) (lowest f (suc i) (n - (i + 1)))) p
-
-  pub lowest-next : (i n : ℕ) → i < n → f i ≡ false → lowest f i (n - i) ≡ lowest f (i + 1) (n - (i + 1))
-  lowest-next i n l p =
-      let e : n - i ≡ suc (n - (i + 1)) = omega arith in
-      let m : suc i ≡ i + 1 = omega arith in
-      ap (lowest f i) e ∙ ap (λ (b : Bool). cond b (Choice.Fence i) (lowest f (suc i) (n - (i + 1)))) p
-      ∙ ap (λ (j : ℕ). lowest f j (n - (i + 1))) m
-
-  pub lowest-all : (n : ℕ) → lowest f 0 n ≡ lowest f 0 (n - 0)
-  lowest-all n =
-      let e : n ≡ n - 0 = omega arith in
-      ap (lowest f 0) e
-
-  pub lowest-over : (i n : ℕ) → n ≤ i → lowest f i (n - i) ≡ Choice.Refused
-  lowest-over i n l =
-      let e : n - i ≡ 0 = omega arith in
-      ap (lowest f i) e
-
   -- the last of some fences
   pub last-of : (n : ℕ) → 0 < n → (b : Bool) → f (n - 1) ≡ b → last f n ≡ cond b (Choice.Fence (n - 1)) Choice.Refused
   last-of n l b p =
       let e : n ≡ suc (n - 1) = omega arith in
       ap (last f) e ∙ ap (λ (b : Bool). cond b (Choice.Fence (n - 1)) Choice.Refused) p
 
-  -- what the search for the lowest finds from i on
-  lowest-takes : (i n g : ℕ) → lowest f i n ≡ Choice.Fence g → (i ≤ g) × (g < i + n) × (f g ≡ true) × ((h : ℕ) → i ≤ h → h < g → f h ≡ false)
+  -- what the search for the lowest finds from i on: its first step, by the test there
+  lowest-at : (i n : ℕ) (b : Bool) → f i ≡ b → (x : Found) → lowest f i (suc n) ≡ x → cond b (Found.At i) (lowest f (suc i) n) ≡ x
+  unfolding lowest
+  lowest-at i n b p x e = sym (ap (λ (b : Bool). cond b (Found.At i) (lowest f (suc i) n)) p) ∙ e
+
+  -- none will do from i up to g
+  abbrev NoneFrom : ℕ → ℕ → Type 0
+  NoneFrom i g = (h : ℕ) → i ≤ h → h < g → f h ≡ false
+
+  none-more : (i g : ℕ) → f i ≡ false → NoneFrom (suc i) g → NoneFrom i g
+  none-more i g p rest h l u = at (decLt i h)
+    where
+      at : Dec (i < h) → f h ≡ false
+      at (yes m) = rest h m u
+      at (no m) =
+          let e : h ≡ i = omega arith in
+          ap f e ∙ p
+
+  lowest-takes : (i n g : ℕ) → lowest f i n ≡ Found.At g → (i ≤ g) × (g < i + n) × (f g ≡ true) × NoneFrom i g
+  unfolding lowest
   lowest-takes i zero g e = differ (cc)
   lowest-takes i (suc n) g e = at (f i) refl (lowest-takes (suc i) n g)
     where
       at : (b : Bool) → f i ≡ b
-          → (lowest f (suc i) n ≡ Choice.Fence g → (suc i ≤ g) × (g < suc i + n) × (f g ≡ true) × ((h : ℕ) → suc i ≤ h → h < g → f h ≡ false))
-          → (i ≤ g) × (g < i + suc n) × (f g ≡ true) × ((h : ℕ) → i ≤ h → h < g → f h ≡ false)
+          → (lowest f (suc i) n ≡ Found.At g → (suc i ≤ g) × (g < suc i + n) × (f g ≡ true) × NoneFrom (suc i) g)
+          → (i ≤ g) × (g < i + suc n) × (f g ≡ true) × NoneFrom i g
       at true p rest =
-          let q : Choice.Fence i ≡ Choice.Fence g = sym (ap (λ (b : Bool). cond b (Choice.Fence i) (lowest f (suc i) n)) p) ∙ e in
+          let q : Found.At i ≡ Found.At g = lowest-at i n true p (Found.At g) e in
           let m : i ≡ g = cc in
           (omega arith, omega arith, sym (ap f m) ∙ p, λ h l u. absurd (omega arith))
       at false p rest =
-          let w = rest (sym (ap (λ (b : Bool). cond b (Choice.Fence i) (lowest f (suc i) n)) p) ∙ e) in
-          (omega (arith, w .0), omega (arith, w .1), w .2, λ h l u. above h l u (decLt i h) (w .3))
-        where
-          above : (h : ℕ) → i ≤ h → h < g → Dec (i < h) → ((h : ℕ) → suc i ≤ h → h < g → f h ≡ false) → f h ≡ false
-          above h l u (yes m) rest = rest h m u
-          above h l u (no m) rest =
-              let e : h ≡ i = omega arith in
-              ap f e ∙ p
+          let w = rest (lowest-at i n false p (Found.At g) e) in
+          (omega (arith, w .0), omega (arith, w .1), w .2, none-more i g p (w .3))
 
-  lowest-refused : (i n : ℕ) → lowest f i n ≡ Choice.Refused → (h : ℕ) → i ≤ h → h < i + n → f h ≡ false
-  lowest-refused i zero e h l u = absurd (omega arith)
-  lowest-refused i (suc n) e h l u = at (f i) refl (lowest-refused (suc i) n) (decLt i h)
+  lowest-nowhere : (i n : ℕ) → lowest f i n ≡ Found.Nowhere → NoneFrom i (i + n)
+  unfolding lowest
+  lowest-nowhere i zero e h l u = absurd (omega arith)
+  lowest-nowhere i (suc n) e h l u = at (f i) refl (lowest-nowhere (suc i) n)
     where
-      at : (b : Bool) → f i ≡ b → (lowest f (suc i) n ≡ Choice.Refused → (h : ℕ) → suc i ≤ h → h < suc i + n → f h ≡ false)
-          → Dec (i < h) → f h ≡ false
-      at true p rest d =
-          let q : Choice.Fence i ≡ Choice.Refused = sym (ap (λ (b : Bool). cond b (Choice.Fence i) (lowest f (suc i) n)) p) ∙ e in
-          differ (cc)
-      at false p rest (yes m) = rest (sym (ap (λ (b : Bool). cond b (Choice.Fence i) (lowest f (suc i) n)) p) ∙ e) h m (omega arith)
-      at false p rest (no m) =
-          let e : h ≡ i = omega arith in
-          ap f e ∙ p
-
-  lowest-some : (i n : ℕ) → lowest f i n ≡ Choice.Nothing → ⊥
-  lowest-some i zero e = differ (cc)
-  lowest-some i (suc n) e = at (f i) refl (lowest-some (suc i) n)
-    where
-      at : (b : Bool) → f i ≡ b → (lowest f (suc i) n ≡ Choice.Nothing → ⊥) → ⊥
+      at : (b : Bool) → f i ≡ b → (lowest f (suc i) n ≡ Found.Nowhere → NoneFrom (suc i) (suc i + n)) → f h ≡ false
       at true p rest =
-          let q : Choice.Fence i ≡ Choice.Nothing = sym (ap (λ (b : Bool). cond b (Choice.Fence i) (lowest f (suc i) n)) p) ∙ e in
+          let q : Found.At i ≡ Found.Nowhere = lowest-at i n true p Found.Nowhere e in
           differ (cc)
-      at false p rest = rest (sym (ap (λ (b : Bool). cond b (Choice.Fence i) (lowest f (suc i) n)) p) ∙ e)
+      at false p rest = none-more i (suc i + n) p (rest (lowest-at i n false p Found.Nowhere e)) h l (omega arith)
 
   -- what the last is, if it passes
-  last-is : (n : ℕ) (b : Bool) → f n ≡ b → (c : Choice) → cond (f n) (Choice.Fence n) Choice.Refused ≡ c → cond b (Choice.Fence n) Choice.Refused ≡ c
+  last-is : (n : ℕ) (b : Bool) → f n ≡ b → (c : Choice) → cond (f n) (Choice.Fence n) Choice.Refused ≡ c
+      → cond b (Choice.Fence n) Choice.Refused ≡ c
   last-is n b p c e = sym (ap (λ (b : Bool). cond b (Choice.Fence n) Choice.Refused) p) ∙ e
 
   -- a pick takes what it says, or says that none will do
 
   pub pick-takes : (way : Way) (n g : ℕ) → pick way f n ≡ Choice.Fence g → Takes way f n g
   pick-takes Way.Sparing n g e =
-      let w = lowest-takes 0 n g e in
+      let w = lowest-takes 0 n g (taken-fence (lowest f 0 n) g e) in
       (omega (arith, w .1), w .2, λ h l. w .3 h (omega arith) l)
   pick-takes Way.Full zero g e = differ (cc)
   pick-takes Way.Full (suc n) g e = at (f n) refl
@@ -146,8 +125,8 @@ module _ (f : ℕ → Bool) where
           let q : Choice.Refused ≡ Choice.Fence g = last-is n false p (Choice.Fence g) e in
           differ (cc)
 
-  pub pick-refused : (way : Way) (n : ℕ) → pick way f n ≡ Choice.Refused → NoneWillDo way f n
-  pick-refused Way.Sparing n e = λ g l. lowest-refused 0 n e g (omega arith) (omega arith)
+  pick-refused : (way : Way) (n : ℕ) → pick way f n ≡ Choice.Refused → NoneWillDo way f n
+  pick-refused Way.Sparing n e = λ g l. lowest-nowhere 0 n (taken-refused (lowest f 0 n) e) g (omega arith) (omega arith)
   pick-refused Way.Full zero e = λ g m. absurd (omega arith)
   pick-refused Way.Full (suc n) e = at (f n) refl
     where
@@ -159,8 +138,8 @@ module _ (f : ℕ → Bool) where
           let h : g ≡ n = omega arith in
           ap f h ∙ p
 
-  pub pick-some : (way : Way) (n : ℕ) → pick way f n ≡ Choice.Nothing → ⊥
-  pick-some Way.Sparing n e = lowest-some 0 n e
+  pick-some : (way : Way) (n : ℕ) → pick way f n ≡ Choice.Nothing → ⊥
+  pick-some Way.Sparing n e = taken-some (lowest f 0 n) e
   pick-some Way.Full zero e = differ (cc)
   pick-some Way.Full (suc n) e = at (f n) refl
     where
@@ -172,27 +151,10 @@ module _ (f : ℕ → Bool) where
           let q : Choice.Refused ≡ Choice.Nothing = last-is n false p Choice.Nothing e in
           differ (cc)
 
-  -- a way takes no two different fences, and takes none where none will do
-  takes-one : (way : Way) (n g h : ℕ) → Takes way f n g → Takes way f n h → g ≡ h
-  takes-one Way.Sparing n g h p q = at (decLt g h) (decLt h g)
-    where
-      at : Dec (g < h) → Dec (h < g) → g ≡ h
-      at (yes l) d = absurd (not-both (p .1) (q .2 g l))
-      at (no l) (yes u) = absurd (not-both (q .1) (p .2 h u))
-      at (no l) (no u) = omega arith
-  takes-one Way.Full n g h p q = omega (arith, p .0, q .0)
-
+  -- a way takes none where none will do
   takes-not-none : (way : Way) (n g : ℕ) → Takes way f n g → NoneWillDo way f n → ⊥
   takes-not-none Way.Sparing n g p none = not-both (p .1) (none g (p .0))
   takes-not-none Way.Full n g p none = not-both (p .1) (none g (p .0))
-
-  pub takes-pick : (way : Way) (n g : ℕ) → Takes way f n g → pick way f n ≡ Choice.Fence g
-  takes-pick way n g h = at (pick way f n) refl
-    where
-      at : (c : Choice) → pick way f n ≡ c → pick way f n ≡ Choice.Fence g
-      at Choice.Nothing e = absurd (pick-some way n e)
-      at (Choice.Fence i) e = e ∙ ap Choice.Fence (takes-one way n i g (pick-takes way n i e) h)
-      at Choice.Refused e = absurd (takes-not-none way n g h (pick-refused way n e))
 
   pub none-pick : (way : Way) (n : ℕ) → NoneWillDo way f n → pick way f n ≡ Choice.Refused
   none-pick way n h = at (pick way f n) refl
@@ -205,7 +167,7 @@ module _ (f : ℕ → Bool) where
 -- what the rule puts, by its three answers
 module _ (way : Way) (up target : Model) (input output : Stream) (k : Kind) where
   -- which fences will do
-  abbrev pub will-do : ℕ → Bool
+  abbrev will-do : ℕ → Bool
   will-do g = settled up target input (output ++ fence g) k
 
   asked-rule : (b : Bool) → settled up target input output k ≡ b
@@ -213,7 +175,7 @@ module _ (way : Way) (up target : Model) (input output : Stream) (k : Kind) wher
   unfolding rule
   asked-rule b e = ap (λ (b : Bool). cond b Choice.Nothing (pick way will-do (length (target .fences)))) e
 
-  pub settled-rule : settled up target input output k ≡ true → rule way up target input output k ≡ Choice.Nothing
+  settled-rule : settled up target input output k ≡ true → rule way up target input output k ≡ Choice.Nothing
   settled-rule e = asked-rule true e
 
   pub short-rule : settled up target input output k ≡ false → rule way up target input output k ≡ pick way will-do (length (target .fences))
@@ -227,7 +189,7 @@ module _ (way : Way) (up target : Model) (input output : Stream) (k : Kind) wher
       at false p = absurd (pick-some will-do way (length (target .fences)) (sym (short-rule p) ∙ e))
 
   -- any other answer is given only where a pair would be short, and is the way's pick
-  pub rule-short : (c : Choice) → rule way up target input output k ≡ c → (Choice.Nothing ≡ c → ⊥)
+  rule-short : (c : Choice) → rule way up target input output k ≡ c → (Choice.Nothing ≡ c → ⊥)
       → (settled up target input output k ≡ false) × (pick way will-do (length (target .fences)) ≡ c)
   rule-short c e some = at (settled up target input output k) refl
     where

@@ -43,7 +43,8 @@ module _ (way : Way) (up target : Model) where
 
   -- one operation, and what it put out, before a run that is continued
   next : (op : Operation) (put s x input output output′ : Stream) → ((out : Stream) → output′ ++ out ≡ output ++ (put ++ out))
-      → go (input ++ op ∷ []) output′ (s ++ x) ≡ then (length s) (go (input ++ op ∷ []) output′ s) (λ (out : Stream). go (input ++ op ∷ [] ++ s) (output′ ++ out) x)
+      → go (input ++ op ∷ []) output′ (s ++ x)
+      ≡ then (length s) (go (input ++ op ∷ []) output′ s) (λ (out : Stream). go (input ++ op ∷ [] ++ s) (output′ ++ out) x)
       → behind put (go (input ++ op ∷ []) output′ (s ++ x))
       ≡ then (suc (length s)) (behind put (go (input ++ op ∷ []) output′ s)) (λ (out : Stream). go (input ++ op ∷ s) (output ++ out) x)
   next op put s x input output output′ grows h =
@@ -65,7 +66,8 @@ module _ (way : Way) (up target : Model) where
       (λ (g : ℕ). behind (fence g ++ access k) (go (input ++ access k) (output ++ (fence g ++ access k)) s))
       (next (Operation.Access k) (access k) s x input output (output ++ access k) (append-assoc output (access k))
       (continued s x (input ++ access k) (output ++ access k)))
-      (λ g. next (Operation.Access k) (fence g ++ access k) s x input output (output ++ (fence g ++ access k)) (append-assoc output (fence g ++ access k))
+      (λ g. next (Operation.Access k) (fence g ++ access k) s x input output (output ++ (fence g ++ access k))
+      (append-assoc output (fence g ++ access k))
       (continued s x (input ++ access k) (output ++ (fence g ++ access k))))
       (rule way up target input output k)
     where
@@ -78,8 +80,8 @@ module _ (way : Way) (up target : Model) where
       at p q f g e h (Choice.Fence n) = h n
       at p q f g e h Choice.Refused = refl
 
-  -- a refusal: the stream up to the access is accepted, and there the rule refuses
-  pub record Refusal (input output s : Stream) (place : ℕ) : Type 0 where
+  -- stuck at a place: the stream up to the access there is accepted, and there the rule refuses
+  pub record StuckAt (input output s : Stream) (place : ℕ) : Type 0 where
     pub first : Stream
     pub kind : Kind
     pub rest : Stream
@@ -99,11 +101,12 @@ module _ (way : Way) (up target : Model) where
       (λ (g : ℕ). behind (fence g ++ access k) (go (input ++ access k) (output ++ (fence g ++ access k)) s)))
       e
 
-  pub refusal-refused : (input output s : Stream) (place : ℕ) → Refusal input output s place → onward way up target input output s ≡ refused place
-  refusal-refused input output s place f =
+  pub stuck-refused : (input output s : Stream) (place : ℕ) → StuckAt input output s place → onward way up target input output s ≡ refused place
+  stuck-refused input output s place f =
+      let left : Stream = Operation.Access (f .kind) ∷ f .rest in
       ap (onward way up target input output) (f .split)
-      ∙ continued (f .first) (Operation.Access (f .kind) ∷ f .rest) input output
-      ∙ ap (λ (x : Ran). then (length (f .first)) x (λ (out : Stream). onward way up target (input ++ f .first) (output ++ out) (Operation.Access (f .kind) ∷ f .rest)))
+      ∙ continued (f .first) left input output
+      ∙ ap (λ (x : Ran). then (length (f .first)) x (λ (out : Stream). onward way up target (input ++ f .first) (output ++ out) left))
       (f .accepted)
       ∙ ap (follows (length (f .first)) (f .out)) (stops (input ++ f .first) (output ++ f .out) (f .kind) (f .rest) (f .stuck))
       ∙ ap refused (add-zero (length (f .first)) ∙ f .index)
@@ -113,9 +116,11 @@ module _ (way : Way) (up target : Model) where
   behind-refused put p (refused q) e = (q, refl, (cc))
 
   -- a refusal further on, with one operation before it
-  later : (op : Operation) (put s input output output′ : Stream) (p q : ℕ) → ((out : Stream) → output′ ++ out ≡ output ++ (put ++ out)) → suc q ≡ p
-      → ((out : Stream) (x : Stream) → onward way up target (input ++ op ∷ []) output′ x ≡ done out → onward way up target input output (op ∷ x) ≡ done (put ++ out))
-      → Refusal (input ++ op ∷ []) output′ s q → Refusal input output (op ∷ s) p
+  later : (op : Operation) (put s input output output′ : Stream) (p q : ℕ)
+      → ((out : Stream) → output′ ++ out ≡ output ++ (put ++ out)) → suc q ≡ p
+      → ((out x : Stream) → onward way up target (input ++ op ∷ []) output′ x ≡ done out
+      → onward way up target input output (op ∷ x) ≡ done (put ++ out))
+      → StuckAt (input ++ op ∷ []) output′ s q → StuckAt input output (op ∷ s) p
   later op put s input output output′ p q grows e goes f =
       record {
         first = op ∷ f .first;
@@ -126,19 +131,20 @@ module _ (way : Way) (up target : Model) where
         index = ap suc (f .index) ∙ e;
         accepted = goes (f .out) (f .first) (f .accepted);
         stuck =
-            ap₂ (λ (i o : Stream). rule way up target i o (f .kind)) (sym (append-assoc input (op ∷ []) (f .first))) (sym (grows (f .out))) ∙ f .stuck;
+            ap₂ (λ (i o : Stream). rule way up target i o (f .kind))
+            (sym (append-assoc input (op ∷ []) (f .first))) (sym (grows (f .out))) ∙ f .stuck;
       }
 
-  pub refused-refusal : (s input output : Stream) (place : ℕ) → onward way up target input output s ≡ refused place → Refusal input output s place
+  pub refused-stuck : (s input output : Stream) (place : ℕ) → onward way up target input output s ≡ refused place → StuckAt input output s place
   unfolding onward go
-  refused-refusal [] input output p e = differ (cc)
-  refused-refusal (Operation.Fence n ∷ s) input output p e =
+  refused-stuck [] input output p e = differ (cc)
+  refused-stuck (Operation.Fence n ∷ s) input output p e =
       let w = behind-refused [] p (go (input ++ fence n) output s) e in
       later (Operation.Fence n) [] s input output output p (w .0) (λ out. refl) (w .2) (λ out x h. ap (behind []) h)
-      (refused-refusal s (input ++ fence n) output (w .0) (w .1))
-  refused-refusal (Operation.Access k ∷ s) input output p e =
-      at (λ q h. refused-refusal s (input ++ access k) (output ++ access k) q h)
-      (λ g q h. refused-refusal s (input ++ access k) (output ++ (fence g ++ access k)) q h) (rule way up target input output k) refl
+      (refused-stuck s (input ++ fence n) output (w .0) (w .1))
+  refused-stuck (Operation.Access k ∷ s) input output p e =
+      at (λ q h. refused-stuck s (input ++ access k) (output ++ access k) q h)
+      (λ g q h. refused-stuck s (input ++ access k) (output ++ (fence g ++ access k)) q h) (rule way up target input output k) refl
     where
       plainly : Stream → Ran
       plainly x = behind (access k) (go (input ++ access k) (output ++ access k) x)
@@ -146,10 +152,10 @@ module _ (way : Way) (up target : Model) where
       with-fence : Stream → ℕ → Ran
       with-fence x g = behind (fence g ++ access k) (go (input ++ access k) (output ++ (fence g ++ access k)) x)
 
-      at : ((q : ℕ) → go (input ++ access k) (output ++ access k) s ≡ refused q → Refusal (input ++ access k) (output ++ access k) s q)
+      at : ((q : ℕ) → go (input ++ access k) (output ++ access k) s ≡ refused q → StuckAt (input ++ access k) (output ++ access k) s q)
           → ((g q : ℕ) → go (input ++ access k) (output ++ (fence g ++ access k)) s ≡ refused q
-          → Refusal (input ++ access k) (output ++ (fence g ++ access k)) s q)
-          → (c : Choice) → rule way up target input output k ≡ c → Refusal input output (Operation.Access k ∷ s) p
+          → StuckAt (input ++ access k) (output ++ (fence g ++ access k)) s q)
+          → (c : Choice) → rule way up target input output k ≡ c → StuckAt input output (Operation.Access k ∷ s) p
       at a b Choice.Nothing r =
           let w = behind-refused (access k) p (go (input ++ access k) (output ++ access k) s) (sym (ap (goes-on (plainly s) (with-fence s)) r) ∙ e) in
           later (Operation.Access k) (access k) s input output (output ++ access k) p (w .0) (append-assoc output (access k)) (w .2)

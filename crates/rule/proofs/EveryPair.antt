@@ -8,9 +8,9 @@ use lib.ListN.{length}
 use Rattle.operations.specs.declared.Kind.{Kind}
 use Rattle.rule.specs.declared.way.Way.{Way}
 use Rattle.rule.specs.Stream.{Stream, access, fence, accesses, count, kindAt, after, between}
-use Rattle.rule.specs.Pairs.{Model, isRow, isColumn, highest, Kept, Keeps}
+use Rattle.rule.specs.Pairs.{Model, isRow, isColumn, highest, Kept, Keeps, Settled}
 use Rattle.rule.proofs.Streams.{count-fence, count-access, kind-append, kind-next, before-append, before-next, same-fence}
-use Rattle.rule.proofs.Kept.{Settled, settled-means}
+use Rattle.rule.proofs.Kept.{settled-means}
 use Rattle.rule.proofs.Choices.{rule-nothing, fence-will-do}
 use Rattle.rule.proofs.Reach.{Reach, fresh, passed, plain, fenced, reach-same}
 
@@ -33,14 +33,16 @@ module _ (up target : Model) where
       (ap (after i) (before-append j input x m)) (ap (after i) (before-append j output y (omega (arith, ap length same))))
       (h i j l m)
 
-  keeps-passed : (input output : Stream) (n : ℕ) → accesses output ≡ accesses input → Keeps up target input output → Keeps up target (input ++ fence n) output
+  keeps-passed : (input output : Stream) (n : ℕ) → accesses output ≡ accesses input → Keeps up target input output
+      → Keeps up target (input ++ fence n) output
   keeps-passed input output n same h i j l m =
       kept-by input output (input ++ fence n) output i j
       (kind-append input (fence n) i (omega (arith, count-fence input n))) (kind-append input (fence n) j (omega (arith, count-fence input n)))
       (ap (after i) (before-append j input (fence n) (omega (arith, count-fence input n)))) refl
       (h i j l (omega (arith, count-fence input n)))
 
-  keeps-put : (input output : Stream) (g : ℕ) → accesses output ≡ accesses input → Keeps up target input output → Keeps up target input (output ++ fence g)
+  keeps-put : (input output : Stream) (g : ℕ) → accesses output ≡ accesses input → Keeps up target input output
+      → Keeps up target input (output ++ fence g)
   keeps-put input output g same h i j l m =
       kept-by input output input (output ++ fence g) i j refl refl refl
       (ap (after i) (before-append j output (fence g) (omega (arith, ap length same)))) (h i j l m)

@@ -107,7 +107,9 @@ module _ (up target : Model) where
 
       put : (i : ℕ) → i < count input → (r : Row) (c : Column)
           → highest target r c (after i (output ++ fence g)) ≡ max (highest target r c (after i output)) (cell (fenceTable target g) r c)
-      put i l r c = ap (highest target r c) (after-append i output (fence g) (omega (arith, ap length same))) ∙ highest-fence target r c (after i output) g
+      put i l r c =
+          ap (highest target r c) (after-append i output (fence g) (omega (arith, ap length same)))
+          ∙ highest-fence target r c (after i output) g
 
       settles : highest up r c (after i input) ≤ cell (fenceTable target g) r c
       settles =
@@ -115,7 +117,8 @@ module _ (up target : Model) where
             arith,
             short .6,
             put i (short .1) r c,
-            settled-means up target input (output ++ fence g) k (fence-will-do Way.Full up target input output k g e) i (short .1) r c (short .4) (short .5),
+            settled-means up target input (output ++ fence g) k (fence-will-do Way.Full up target input output k g e)
+                i (short .1) r c (short .4) (short .5),
           )
 
       apart : from ≤ i

@@ -17,11 +17,11 @@ use Rattle.rule.specs.Situation.{highestBelow, leastBelow}
 pub not-both : {a : Bool} → a ≡ true → a ≡ false → ⊥
 not-both e f = subst T (sym e ∙ f) tt
 
-pub both-true : (a b : Bool) → cond a b false ≡ true → (a ≡ true) × (b ≡ true)
+both-true : (a b : Bool) → cond a b false ≡ true → (a ≡ true) × (b ≡ true)
 both-true true b e = (refl, e)
 both-true false b e = absurd (not-both e refl)
 
-pub true-both : (a b : Bool) → a ≡ true → b ≡ true → cond a b false ≡ true
+true-both : (a b : Bool) → a ≡ true → b ≡ true → cond a b false ≡ true
 true-both a b p q = ap₂ (λ (x y : Bool). cond x y false) p q
 
 either : (b : Bool) → cond b true true ≡ true

@@ -35,7 +35,7 @@ module _ (way : Way) (up target : Model) where
   behind-done put out (refused n) e = differ (cc)
 
   -- a run that goes on from there, and is done, comes about so
-  pub goes-on-to : (s : Stream) {input output : Stream} → Reach input output → (out : Stream) → onward way up target input output s ≡ done out
+  goes-on-to : (s : Stream) {input output : Stream} → Reach input output → (out : Stream) → onward way up target input output s ≡ done out
       → Reach (input ++ s) (output ++ out)
   unfolding onward
   goes-on-to [] {input} {output} h out e =
@@ -56,7 +56,8 @@ module _ (way : Way) (up target : Model) where
       at : (rule way up target input output k ≡ Choice.Nothing → (out : Stream)
           → onward way up target (input ++ access k) (output ++ access k) s ≡ done out → Reach (input ++ access k ++ s) (output ++ access k ++ out))
           → ((g : ℕ) → rule way up target input output k ≡ Choice.Fence g → (out : Stream)
-          → onward way up target (input ++ access k) (output ++ fence g ++ access k) s ≡ done out → Reach (input ++ access k ++ s) (output ++ fence g ++ access k ++ out))
+          → onward way up target (input ++ access k) (output ++ fence g ++ access k) s ≡ done out
+          → Reach (input ++ access k ++ s) (output ++ fence g ++ access k ++ out))
           → (c : Choice) → rule way up target input output k ≡ c → Reach (input ++ Operation.Access k ∷ s) (output ++ out)
       at p f Choice.Nothing r =
           let w = behind-done (access k) out _ (sym (ap (goes-on nothing with-fence) r) ∙ e) in

@@ -44,7 +44,7 @@ module _ (up target : Model) (r : Row) (c : Column) (input output : Stream) (sam
   there : (i : ℕ) → i < count input → i < count output
   there i l = omega (arith, ap length same)
 
-  pub need-asks : (n : ℕ) → need up target (input ++ fence n) output r c
+  need-asks : (n : ℕ) → need up target (input ++ fence n) output r c
       ≡ max (need up target input output r c) (excess (cell (fenceTable up n) r c) (low target input output r c))
   unfolding a o counts
   need-asks n =
@@ -61,13 +61,13 @@ module _ (up target : Model) (r : Row) (c : Column) (input output : Stream) (sam
       f : ℕ
       f = cell (fenceTable up n) r c
 
-  pub low-asks : (n : ℕ) → low target (input ++ fence n) output r c ≡ low target input output r c
+  low-asks : (n : ℕ) → low target (input ++ fence n) output r c ≡ low target input output r c
   low-asks n =
       ap (λ (m : ℕ). leastBelow m (lowAt target (input ++ fence n) output r c)) (count-fence input n)
       ∙ least-cong (count input) _ _
       (λ i l. ap (λ (k : Kind). cond (isRow k r) (highest target r c (after i output)) 3) (kind-append input (fence n) i l))
 
-  pub need-offers : (g : ℕ) → need up target input (output ++ fence g) r c
+  need-offers : (g : ℕ) → need up target input (output ++ fence g) r c
       ≡ excess (need up target input output r c) (cell (fenceTable target g) r c)
   unfolding a o counts
   need-offers g =
@@ -81,7 +81,7 @@ module _ (up target : Model) (r : Row) (c : Column) (input output : Stream) (sam
       f : ℕ
       f = cell (fenceTable target g) r c
 
-  pub low-offers : (g : ℕ) → low target input (output ++ fence g) r c
+  low-offers : (g : ℕ) → low target input (output ++ fence g) r c
       ≡ max (low target input output r c) (cell (fenceTable target g) r c)
   unfolding a o counts
   low-offers g =
@@ -102,17 +102,18 @@ module _ (up target : Model) (r : Row) (c : Column) (input output : Stream) (sam
   default : (m : Model) (s : Stream) (k : Kind) (i : ℕ) → i ≡ count s → highest m r c (after i (s ++ access k)) ≡ cell (m .ppo) r c
   default m s k i e = ap (λ (j : ℕ). highest m r c (after j (s ++ access k))) e ∙ ap (highest m r c) (after-next s k [])
 
-  pub need-joins : (k : Kind) → need up target (input ++ access k) (output ++ access k) r c
+  need-joins : (k : Kind) → need up target (input ++ access k) (output ++ access k) r c
       ≡ max (need up target input output r c) (cond (isRow k r) (excess (cell (up .ppo) r c) (cell (target .ppo) r c)) 0)
   need-joins k =
       ap (λ (m : ℕ). highestBelow m (needAt up target (input ++ access k) (output ++ access k) r c)) (count-access input k)
       ∙ ap₂ max
       (highest-cong (count input) _ _
-      (λ i l. ap₃ (λ (j : Kind) (x y : ℕ). cond (isRow j r) (excess x y) 0) (kind-append input (access k) i l) (still up input i k l) (still target output i k (there i l))))
+      (λ i l. ap₃ (λ (j : Kind) (x y : ℕ). cond (isRow j r) (excess x y) 0)
+      (kind-append input (access k) i l) (still up input i k l) (still target output i k (there i l))))
       (ap₃ (λ (j : Kind) (x y : ℕ). cond (isRow j r) (excess x y) 0) (kind-next input k []) (default up input k (count input) refl)
       (default target output k (count input) (sym (ap length same))))
 
-  pub low-joins : (k : Kind) → low target (input ++ access k) (output ++ access k) r c
+  low-joins : (k : Kind) → low target (input ++ access k) (output ++ access k) r c
       ≡ min (low target input output r c) (cond (isRow k r) (cell (target .ppo) r c) 3)
   low-joins k =
       ap (λ (m : ℕ). leastBelow m (lowAt target (input ++ access k) (output ++ access k) r c)) (count-access input k)
@@ -171,7 +172,8 @@ module _ (up target : Model) (input output : Stream) (same : accesses output ≡
       low-offers up target r c input output same g
       ∙ ap (λ (x : ℕ). max x (cell (fenceTable target g) r c)) (sym (cell-low up target input output r c))))
 
-  pub joins-step : (k : Kind) → situation up target (input ++ access k) (output ++ access k) ≡ joins (up .ppo) (target .ppo) k (situation up target input output)
+  pub joins-step : (k : Kind)
+      → situation up target (input ++ access k) (output ++ access k) ≡ joins (up .ppo) (target .ppo) k (situation up target input output)
   unfolding situation inRows outsideRows
   joins-step k =
       ap₂ (λ (x y : Table). record { need = x; low = y })
@@ -209,11 +211,12 @@ module _ (up target : Model) (input output : Stream) (same : accesses output ≡
 
   -- what will do before an access of kind k, told by the situation: where the output offers each earlier access what it did and the
   -- table x besides, every pair is kept exactly when x is at least what is pending
-  serves : (k : Kind) (x : Table) (put : Stream)
-      → ((i : ℕ) → i < count input → (r : Row) (c : Column) → highest target r c (after i put) ≡ max (highest target r c (after i output)) (cell x r c))
+  settled-by : (k : Kind) (x : Table) (put : Stream)
+      → ((i : ℕ) → i < count input → (r : Row) (c : Column)
+      → highest target r c (after i put) ≡ max (highest target r c (after i output)) (cell x r c))
       → settled up target input put k ≡ atLeast x (pending k (situation up target input output))
   unfolding inColumns
-  serves k x put offer = same-test _ _ forth back
+  settled-by k x put offer = same-test _ _ forth back
     where
       waiting : (r : Row) (c : Column) → cell (pending k (situation up target input output)) r c
           ≡ min (need up target input output r c) (cond (isColumn k c) 3 0)
@@ -224,7 +227,8 @@ module _ (up target : Model) (input output : Stream) (same : accesses output ≡
           → (b : Bool) → isRow (kindAt input i) r ≡ b
           → cond b (excess (highest up r c (after i input)) (highest target r c (after i output))) 0 ≤ cell x r c
       in-row e r c hc i l true hr =
-          excess-least (highest up r c (after i input)) (highest target r c (after i output)) (cell x r c) (omega (arith, settled-means up target input put k e i l r c hr hc, offer i l r c))
+          excess-least (highest up r c (after i input)) (highest target r c (after i output)) (cell x r c)
+          (omega (arith, settled-means up target input put k e i l r c hr hc, offer i l r c))
       in-row e r c hc i l false hr = omega arith
 
       in-column : settled up target input put k ≡ true → (r : Row) (c : Column) → (b : Bool) → isColumn k c ≡ b
@@ -258,18 +262,19 @@ module _ (up target : Model) (input output : Stream) (same : accesses output ≡
           ))
 
   -- with nothing put, and with a fence put
-  pub settled-none : (k : Kind) → settled up target input output k ≡ atLeast none (pending k (situation up target input output))
-  settled-none k = serves k none output (λ i l r c. omega (arith, cell-none r c))
+  settled-none : (k : Kind) → settled up target input output k ≡ atLeast none (pending k (situation up target input output))
+  settled-none k = settled-by k none output (λ i l r c. omega (arith, cell-none r c))
 
-  pub settled-fence : (k : Kind) (g : ℕ)
+  settled-fence : (k : Kind) (g : ℕ)
       → settled up target input (output ++ fence g) k ≡ atLeast (fenceTable target g) (pending k (situation up target input output))
   settled-fence k g =
-      serves k (fenceTable target g) (output ++ fence g)
+      settled-by k (fenceTable target g) (output ++ fence g)
       (λ i l r c. ap (highest target r c) (after-append i output (fence g) (omega (arith, ap length same)))
       ∙ highest-fence target r c (after i output) g)
 
   -- so the choice by the situation is the rule's
-  pub chosen-rule : (way : Way) (k : Kind) → rule way up target input output k ≡ choiceOf way (target .fences) (pending k (situation up target input output))
+  pub chosen-rule : (way : Way) (k : Kind)
+      → rule way up target input output k ≡ choiceOf way (target .fences) (pending k (situation up target input output))
   unfolding rule choiceOf
   chosen-rule way k =
       ap₂ (λ (b : Bool) (f : ℕ → Bool). cond b Choice.Nothing (pick way f (length (target .fences))))
@@ -292,7 +297,8 @@ by-situations way up target input output same (Operation.Access k ∷ s) =
     ∙ ap (λ (x : Situation). steps way up target x s) (joins-step up target input output same k)))
     (λ g. ap (behind (fence g ++ access k))
     (ap (λ (x : Stream). onward way up target (input ++ access k) x s) (sym (append-assoc output (fence g) (access k)))
-    ∙ by-situations way up target (input ++ access k) (output ++ fence g ++ access k) (same-access input (output ++ fence g) k (same-fence input output g same)) s
+    ∙ by-situations way up target (input ++ access k) (output ++ fence g ++ access k)
+    (same-access input (output ++ fence g) k (same-fence input output g same)) s
     ∙ ap (λ (x : Situation). steps way up target x s)
     (joins-step up target input (output ++ fence g) (same-fence input output g same) k
     ∙ ap (joins (up .ppo) (target .ppo) k) (offers-step up target input output same g))))

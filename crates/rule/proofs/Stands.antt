@@ -14,7 +14,7 @@ use Rattle.rule.specs.Rule.{rule}
 use Rattle.rule.proofs.Streams.{count-fence, count-access, kind-append, kind-next, before-append, before-next, through-append, through-next, same-fence}
 use Rattle.rule.proofs.Reach.{Reach, fresh, passed, plain, fenced, reach-same}
 
--- what a choice puts; `puts c out` is that the access was not refused and out is what was put
+-- what a choice puts; `Puts c put` is that the access was not refused and `put` is what was put
 abbrev pub Puts : Choice → Stream → Type 0
 Puts Choice.Nothing put = put ≡ []
 Puts (Choice.Fence g) put = put ≡ fence g
@@ -24,14 +24,16 @@ module _ (way : Way) (up target : Model) where
   -- before access j of the output there stands what was put out through the access before it, and then what the rule puts
   abbrev pub Stands : Stream → Stream → ℕ → Type 0
   Stands input output j =
-      (put : Stream) × (before j output ≡ through j output ++ put) × Puts (rule way up target (before j input) (through j output) (kindAt input j)) put
+      (put : Stream) × (before j output ≡ through j output ++ put)
+      × Puts (rule way up target (before j input) (through j output) (kindAt input j)) put
 
   -- nothing stands behind the last access of an output
   pub reach-ends : {input output : Stream} → Reach way up target input output → through (count output) output ≡ output
   reach-ends fresh = refl
   reach-ends (passed h n) = reach-ends h
   reach-ends (plain {output = o} h k e) = ap (λ (n : ℕ). through n (o ++ access k)) (count-access o k) ∙ through-next o k
-  reach-ends (fenced {output = o} h k g e) = ap (λ (n : ℕ). through n (o ++ fence g ++ access k)) (count-access (o ++ fence g) k) ∙ through-next (o ++ fence g) k
+  reach-ends (fenced {output = o} h k g e) =
+      ap (λ (n : ℕ). through n (o ++ fence g ++ access k)) (count-access (o ++ fence g) k) ∙ through-next (o ++ fence g) k
 
   same-rule : {i i′ o o′ : Stream} {k k′ : Kind} → i ≡ i′ → o ≡ o′ → k ≡ k′ → rule way up target i o k ≡ rule way up target i′ o′ k′
   same-rule p q r = λ d. rule way up target (p d) (q d) (r d)

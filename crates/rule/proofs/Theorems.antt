@@ -1,7 +1,7 @@
 -- The theorems about runs, for any two models, any way and any stream, as a reader wants to find them. Assumes nothing.
 use Prim.Native.Nat.{ℕ, _≤_, _<_}
 use mathlib.Core.Path.{_≡_, refl, sym, ap, subst, _∙_}
-use mathlib.Core.Bool.{Bool, false}
+use mathlib.Core.Bool.{Bool}
 use mathlib.Core.Logic.{_⊎_, inl, inr}
 use mathlib.Core.List.{[], _∷_, _++_, append-nil}
 use native.Mathlib.Decide.{decLe}
@@ -15,18 +15,18 @@ use Rattle.operations.specs.declared.Operation.{Operation}
 use Rattle.rule.specs.declared.situation.Situation.{Situation}
 use Rattle.rule.specs.declared.way.Way.{Way}
 use Rattle.rule.specs.declared.way.Choice.{Choice}
-use Rattle.rule.specs.Stream.{Stream, fence, accesses, count, kindAt, fences, before, between, through}
-use Rattle.rule.specs.Pairs.{Model, fenceTable, highest, offered, Keeps, settled}
-use Rattle.rule.specs.Rule.{rule, done, refused, onward, run, Placing}
+use Rattle.rule.specs.Stream.{Stream, fence, accesses, count, kindAt, fences, HasFence, before, between, through}
+use Rattle.rule.specs.Pairs.{Model, fenceTable, highest, offered, Keeps, Settled, settled}
+use Rattle.rule.specs.Rule.{Takes, rule, done, refused, onward, run, NoFenceWillDo, Placing}
 use Rattle.rule.specs.Situation.{situation, fresh, steps}
-use Rattle.rule.proofs.Kept.{Settled, settled-means, means-settled}
-use Rattle.rule.proofs.Choices.{Takes, NoneWillDo, rule-nothing, rule-fence, rule-refused, short-rule, none-pick}
+use Rattle.rule.proofs.Kept.{settled-means, means-settled}
+use Rattle.rule.proofs.Choices.{rule-nothing, rule-fence, rule-refused, short-rule, none-pick}
 use Rattle.rule.proofs.Folds.{not-both}
 use Rattle.rule.proofs.Reach.{Reach, reach-same, run-reach}
 use Rattle.rule.proofs.EveryPair.{reach-keeps}
 use Rattle.rule.proofs.Stands.{Puts, reach-stands, reach-ends}
 use Rattle.rule.proofs.Fewest.{reach-fewest}
-use Rattle.rule.proofs.Continued.{refused-refusal, refusal-refused}
+use Rattle.rule.proofs.Continued.{refused-stuck, stuck-refused}
 use Rattle.rule.proofs.Situations.{by-situations}
 
 module _ (way : Way) (up target : Model) (input output : Stream) (accepted : run way up target input ≡ done output) where
@@ -87,49 +87,35 @@ module _ (up target : Model) (input output : Stream) (accepted : run Way.Full up
   pub fewest-fences : (other : Stream) → Placing target input other → Keeps up target input other → fences output ≤ fences other
   fewest-fences other p h = reach-fewest up target (run-reach Way.Full up target input output accepted) other (p .same) h
 
--- What is offered to a pair is the target's default or the strength of one fence between the two: strengths are not added.
-abbrev pub Between : ℕ → Stream → Type 0
-Between g [] = ⊥
-Between g (Operation.Access k ∷ s) = Between g s
-Between g (Operation.Fence n ∷ s) = (n ≡ g) ⊎ Between g s
-
+-- the same of any stretch: by its fences in turn, the higher of a fence and the rest is one of the two
 highest-one : (m : Model) (r : Row) (c : Column) (s : Stream)
-    → (highest m r c s ≡ cell (m .ppo) r c) ⊎ ((g : ℕ) × Between g s × (highest m r c s ≡ cell (fenceTable m g) r c))
+    → (highest m r c s ≡ cell (m .ppo) r c) ⊎ ((g : ℕ) × HasFence g s × (highest m r c s ≡ cell (fenceTable m g) r c))
 highest-one m r c [] = inl refl
 highest-one m r c (Operation.Access k ∷ s) = highest-one m r c s
 highest-one m r c (Operation.Fence n ∷ s) = at (decLe (highest m r c s) (cell (fenceTable m n) r c)) (highest-one m r c s)
   where
     at : Dec (highest m r c s ≤ cell (fenceTable m n) r c)
-        → (highest m r c s ≡ cell (m .ppo) r c) ⊎ ((g : ℕ) × Between g s × (highest m r c s ≡ cell (fenceTable m g) r c))
+        → (highest m r c s ≡ cell (m .ppo) r c) ⊎ ((g : ℕ) × HasFence g s × (highest m r c s ≡ cell (fenceTable m g) r c))
         → (highest m r c (Operation.Fence n ∷ s) ≡ cell (m .ppo) r c)
-        ⊎ ((g : ℕ) × Between g (Operation.Fence n ∷ s) × (highest m r c (Operation.Fence n ∷ s) ≡ cell (fenceTable m g) r c))
+        ⊎ ((g : ℕ) × HasFence g (Operation.Fence n ∷ s) × (highest m r c (Operation.Fence n ∷ s) ≡ cell (fenceTable m g) r c))
     at (yes l) w = inr (n, inl refl, omega arith)
     at (no l) (inl e) = inl (omega arith)
     at (no l) (inr (g, h, e)) = inr (g, inr h, omega arith)
 
+-- What is offered to a pair is the target's default or the strength of one fence between the two: strengths are not added.
 pub by-default-or-one-fence : (target : Model) (output : Stream) (i j : ℕ) (r : Row) (c : Column)
     → (offered target output i j r c ≡ cell (target .ppo) r c)
-    ⊎ ((g : ℕ) × Between g (between i j output) × (offered target output i j r c ≡ cell (fenceTable target g) r c))
+    ⊎ ((g : ℕ) × HasFence g (between i j output) × (offered target output i j r c ≡ cell (fenceTable target g) r c))
 by-default-or-one-fence target output i j r c = highest-one target r c (between i j output)
 
 -- A stream is refused exactly when it has an access up to which it is accepted, at which a pair would be short, and for which no fence will
 -- do for the way; the place of the refusal is that access's index.
 module _ (way : Way) (up target : Model) (input : Stream) (place : ℕ) where
-  pub record NoFenceWillDo : Type 0 where
-    pub first : Stream
-    pub kind : Kind
-    pub rest : Stream
-    pub out : Stream
-    pub split : input ≡ first ++ Operation.Access kind ∷ rest
-    pub index : length first ≡ place
-    pub accepted : run way up target first ≡ done out
-    pub short : settled up target first out kind ≡ false
-    pub none-will-do : NoneWillDo way (λ (g : ℕ). settled up target first (out ++ fence g) kind) (length (target .fences))
-
-  pub refused-exactly-when : (run way up target input ≡ refused place → NoFenceWillDo) × (NoFenceWillDo → run way up target input ≡ refused place)
+  pub refused-exactly-when : (run way up target input ≡ refused place → NoFenceWillDo way up target input place)
+      × (NoFenceWillDo way up target input place → run way up target input ≡ refused place)
   refused-exactly-when = (
     (λ e.
-        let f = refused-refusal way up target input [] [] place e in
+        let f = refused-stuck way up target input [] [] place e in
         let w = rule-refused way up target (f .first) (f .out) (f .kind) (f .stuck) in
         record {
           first = f .first;
@@ -143,7 +129,7 @@ module _ (way : Way) (up target : Model) (input : Stream) (place : ℕ) where
           none-will-do = w .1;
         }),
     (λ f.
-        refusal-refused way up target [] [] input place
+        stuck-refused way up target [] [] input place
         (record {
           first = f .first;
           kind = f .kind;

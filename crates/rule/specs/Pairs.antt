@@ -30,27 +30,29 @@ abbrev pub fenceTable : Model → ℕ → Table
 fenceTable m n = tableAt (m .fences) n
 
 -- the rows in which an access counts as the earlier of a pair, and the columns in which it counts as the later
-abbrev pub rows : Kind → List Row
-rows Kind.Ld = Row.Ld ∷ []
-rows Kind.Cld = Row.Cld ∷ []
-rows Kind.St = Row.St ∷ []
-rows Kind.Cst = Row.Cst ∷ []
+abbrev pub earlierRows : Kind → List Row
+earlierRows Kind.Ld = Row.Ld ∷ []
+earlierRows Kind.Cld = Row.Cld ∷ []
+earlierRows Kind.St = Row.St ∷ []
+earlierRows Kind.Cst = Row.Cst ∷ []
 
-abbrev pub columns : Kind → List Column
-columns Kind.Ld = Column.Ld ∷ []
-columns Kind.Cld = Column.Cld ∷ []
-columns Kind.St = Column.St ∷ []
-columns Kind.Cst = Column.Cst ∷ []
+abbrev pub laterColumns : Kind → List Column
+laterColumns Kind.Ld = Column.Ld ∷ []
+laterColumns Kind.Cld = Column.Cld ∷ []
+laterColumns Kind.St = Column.St ∷ []
+laterColumns Kind.Cst = Column.Cst ∷ []
 
+-- whether a number is in a list
 abbrev pub oneOf : List ℕ → ℕ → Bool
 oneOf [] n = false
 oneOf (m ∷ ms) n = cond (eqb m n) true (oneOf ms n)
 
+-- whether an access of the kind counts in the row, as the earlier of a pair, or in the column, as the later
 abbrev pub isRow : Kind → Row → Bool
-isRow k r = oneOf (map rowNumber (rows k)) (rowNumber r)
+isRow k r = oneOf (map rowNumber (earlierRows k)) (rowNumber r)
 
 abbrev pub isColumn : Kind → Column → Bool
-isColumn k c = oneOf (map columnNumber (columns k)) (columnNumber c)
+isColumn k c = oneOf (map columnNumber (laterColumns k)) (columnNumber c)
 
 -- the higher of the model's ppo cell and that cell in each fence of a stretch
 abbrev pub highest : Model → Row → Column → Stream → ℕ
@@ -75,22 +77,29 @@ Kept up target input output i j =
 abbrev pub Keeps : Model → Model → Stream → Stream → Type 0
 Keeps up target input output = (i j : ℕ) → i < j → j < count input → Kept up target input output i j
 
--- the same as a test, of a pair of which the earlier access is of kind a, the later of kind b, and between which x stands in the
--- input and y in the output
+-- the same of a pair of which the earlier access is of kind a, the later of kind b, and between which x stands in the input and y in
+-- the output; and the same as a test
+abbrev pub AtMost : Model → Model → Kind → Kind → Stream → Stream → Type 0
+AtMost up target a b x y = (r : Row) (c : Column) → isRow a r ≡ true → isColumn b c ≡ true → highest up r c x ≤ highest target r c y
+
 abbrev pub every : {A : Type 0} → (A → Bool) → List A → Bool
 every f [] = true
 every f (a ∷ rest) = cond (f a) (every f rest) false
 
 abbrev pub kept : Model → Model → Kind → Kind → Stream → Stream → Bool
 kept up target a b x y =
-    every (λ (r : Row). every (λ (c : Column). leb (highest up r c x) (highest target r c y)) (columns b)) (rows a)
+    every (λ (r : Row). every (λ (c : Column). leb (highest up r c x) (highest target r c y)) (laterColumns b)) (earlierRows a)
+
+-- after this input and this output, no pair that ends at an access of kind k coming now would be short; and the same as a test
+abbrev pub Settled : Model → Model → Stream → Stream → Kind → Type 0
+Settled up target input output k =
+    (i : ℕ) → i < count input → AtMost up target (kindAt input i) k (after i input) (after i output)
 
 -- the test f passes at every number below n
 abbrev pub everyBelow : ℕ → (ℕ → Bool) → Bool
 everyBelow zero f = true
 everyBelow (suc n) f = cond (everyBelow n f) (f n) false
 
--- after this input and this output, no pair that ends at an access of kind k coming now would be short
 unfoldable pub settled : Model → Model → Stream → Stream → Kind → Bool
 settled up target input output k =
     everyBelow (count input) (λ (i : ℕ). kept up target (kindAt input i) k (after i input) (after i output))

@@ -5,9 +5,11 @@
 -- The run has no limit of length: only the calls have.
 use Prim.Native.Nat.{ℕ, zero, suc, _+_, _<_}
 use mathlib.Core.Path.{_≡_}
-use mathlib.Core.Bool.{Bool, cond}
+use mathlib.Core.Bool.{Bool, true, false, cond}
 use mathlib.Core.List.{[], _∷_, _++_}
 use lib.ListN.{length}
+use Rattle.ground.specs.declared.Found.{Found}
+use Rattle.ground.specs.Lowest.{lowest}
 use Rattle.operations.specs.declared.Kind.{Kind}
 use Rattle.operations.specs.declared.Operation.{Operation}
 use Rattle.rule.specs.declared.way.Way.{Way}
@@ -20,10 +22,10 @@ abbrev pub wayNumber : Way → ℕ
 wayNumber Way.Sparing = 0
 wayNumber Way.Full = 1
 
--- the lowest number of n, counted from i, at which the test passes
-abbrev pub lowest : (ℕ → Bool) → ℕ → ℕ → Choice
-lowest f i zero = Choice.Refused
-lowest f i (suc n) = cond (f i) (Choice.Fence i) (lowest f (suc i) n)
+-- the fence that was found, or a refusal
+abbrev pub taken : Found → Choice
+taken (Found.At g) = Choice.Fence g
+taken Found.Nowhere = Choice.Refused
 
 -- the last number below n, if the test passes there
 abbrev pub last : (ℕ → Bool) → ℕ → Choice
@@ -32,8 +34,18 @@ last f (suc n) = cond (f n) (Choice.Fence n) Choice.Refused
 
 -- which of n fences a way takes, where the test says which will do
 abbrev pub pick : Way → (ℕ → Bool) → ℕ → Choice
-pick Way.Sparing f n = lowest f 0 n
+pick Way.Sparing f n = taken (lowest f 0 n)
 pick Way.Full f n = last f n
+
+-- the same as properties: the way takes fence g, "the lowest-numbered target fence that leaves none of these pairs short" or "the
+-- highest-numbered fence, if that leaves none short"; and no fence will do for the way
+abbrev pub Takes : Way → (ℕ → Bool) → ℕ → ℕ → Type 0
+Takes Way.Sparing f n g = (g < n) × (f g ≡ true) × ((h : ℕ) → h < g → f h ≡ false)
+Takes Way.Full f n g = (suc g ≡ n) × (f g ≡ true)
+
+abbrev pub NoneWillDo : Way → (ℕ → Bool) → ℕ → Type 0
+NoneWillDo Way.Sparing f n = (g : ℕ) → g < n → f g ≡ false
+NoneWillDo Way.Full f n = (g : ℕ) → suc g ≡ n → f g ≡ false
 
 -- what the rule puts before an access of kind k, after this input and this output
 unfoldable pub rule : Way → Model → Model → Stream → Stream → Kind → Choice
@@ -66,6 +78,19 @@ onward way up target input output (Operation.Access k ∷ s) =
 -- the run of a stream by the fresh shim
 abbrev pub run : Way → Model → Model → Stream → Ran
 run way up target s = onward way up target [] [] s
+
+-- the input has, at this place, an access up to which it is accepted, at which a pair would be short, and for which no fence will do for
+-- the way
+pub record NoFenceWillDo (way : Way) (up target : Model) (input : Stream) (place : ℕ) : Type 0 where
+  pub first : Stream
+  pub kind : Kind
+  pub rest : Stream
+  pub out : Stream
+  pub split : input ≡ first ++ Operation.Access kind ∷ rest
+  pub index : length first ≡ place
+  pub accepted : run way up target first ≡ done out
+  pub short : settled up target first out kind ≡ false
+  pub none-will-do : NoneWillDo way (λ (g : ℕ). settled up target first (out ++ fence g) kind) (length (target .fences))
 
 -- "of any kinds and any number in a gap": the accesses of the input in order, with target fences anywhere among them, also before the
 -- first and after the last

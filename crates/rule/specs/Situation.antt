@@ -2,7 +2,7 @@
 -- access coming now (`-` if none), and the least offered among earlier accesses of the first kind (S if none)."
 -- Then the same stepped: how each operation changes it, and the run that keeps only the situation of the past.
 use Prim.Native.Nat.{ℕ, zero, suc, max, min}
-use mathlib.Core.Bool.{cond}
+use mathlib.Core.Bool.{Bool, cond}
 use mathlib.Core.List.{List, [], _∷_, _++_}
 use lib.ListN.{length}
 use Rattle.tables.specs.declared.table.Row.{Row}
@@ -21,6 +21,7 @@ use Rattle.rule.specs.Rule.{pick, Ran, done, refused, behind}
 
 -- by pairs
 
+-- the highest of f at the numbers below n, `-` if there is none; the least of them, S if there is none
 abbrev pub highestBelow : ℕ → (ℕ → ℕ) → ℕ
 highestBelow zero f = 0
 highestBelow (suc n) f = max (highestBelow n f) (f n)
@@ -37,17 +38,20 @@ needAt up target input output r c i =
 abbrev pub lowAt : Model → Stream → Stream → Row → Column → ℕ → ℕ
 lowAt target input output r c i = cond (isRow (kindAt input i) r) (highest target r c (after i output)) 3
 
+-- over all earlier accesses
 abbrev pub need : Model → Model → Stream → Stream → Row → Column → ℕ
 need up target input output r c = highestBelow (count input) (needAt up target input output r c)
 
 abbrev pub low : Model → Stream → Stream → Row → Column → ℕ
 low target input output r c = leastBelow (count input) (lowAt target input output r c)
 
+-- both, cell by cell
 unfoldable pub situation : Model → Model → Stream → Stream → Situation
 situation up target input output = record { need = table (need up target input output); low = table (low target input output) }
 
 -- stepped
 
+-- a table with only `-`
 abbrev pub none : Table
 none = record { packed = 0 }
 
@@ -85,10 +89,13 @@ joins up target k s =
 abbrev pub pending : Kind → Situation → Table
 pending k s = lower (s .need) (inColumns k)
 
+-- whether a fence will do for what is pending: its table is at least that
+abbrev pub serves : List ℕ → Table → ℕ → Bool
+serves fences p g = atLeast (tableAt fences g) p
+
 -- what the way puts before an access that needs this, of these fences
 unfoldable pub choiceOf : Way → List ℕ → Table → Choice
-choiceOf way fences p =
-    cond (atLeast none p) Choice.Nothing (pick way (λ (g : ℕ). atLeast (tableAt fences g) p) (length fences))
+choiceOf way fences p = cond (atLeast none p) Choice.Nothing (pick way (serves fences p) (length fences))
 
 -- an access after a choice: what is put before it, and the situation after it
 abbrev pub stepOf : Table → Model → Situation → Kind → Choice → Step
@@ -96,10 +103,11 @@ stepOf up target s k Choice.Nothing = Step.Plain (joins up (target .ppo) k s)
 stepOf up target s k (Choice.Fence g) = Step.Fenced g (joins up (target .ppo) k (offers (fenceTable target g) s))
 stepOf up target s k Choice.Refused = Step.Refused
 
+-- an access of kind k in this situation
 abbrev pub stepped : Way → Table → Model → Situation → Kind → Step
 stepped way up target s k = stepOf up target s k (choiceOf way (target .fences) (pending k s))
 
--- the run by situations
+-- the run by situations: what is put out further after a step, and from a situation on
 abbrev pub resumed : Kind → (Situation → Ran) → Step → Ran
 resumed k rest (Step.Plain next) = behind (access k) (rest next)
 resumed k rest (Step.Fenced g next) = behind (fence g ++ access k) (rest next)

@@ -1,5 +1,7 @@
 -- Streams of operations, and what stands where in one. Accesses are numbered from 0, in the order of the stream.
 use Prim.Native.Nat.{ℕ, zero, suc}
+use mathlib.Core.Path.{_≡_}
+use mathlib.Core.Logic.{_⊎_}
 use mathlib.Core.List.{List, [], _∷_}
 use lib.ListN.{length, getD}
 use Rattle.operations.specs.declared.Kind.{Kind}
@@ -32,6 +34,12 @@ abbrev pub fences : Stream → ℕ
 fences [] = 0
 fences (Operation.Access k ∷ s) = fences s
 fences (Operation.Fence n ∷ s) = suc (fences s)
+
+-- fence g stands in it
+abbrev pub HasFence : ℕ → Stream → Type 0
+HasFence g [] = ⊥
+HasFence g (Operation.Access k ∷ s) = HasFence g s
+HasFence g (Operation.Fence n ∷ s) = (n ≡ g) ⊎ HasFence g s
 
 -- what stands before access j; all of it where there is no such access
 abbrev pub before : ℕ → Stream → Stream

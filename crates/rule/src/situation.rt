@@ -38,7 +38,7 @@ impl Situation {
     }
 
     // After a target fence with this table.
-    pub fn offers(self, fence: Table) -> Situation
+    pub(crate) fn offers(self, fence: Table) -> Situation
         ensures { λ r. ⌜ r ≡ offers fence self ⌝ }
     {
         Situation {
@@ -48,7 +48,7 @@ impl Situation {
     }
 
     // After an access, with the two defaults.
-    pub fn joins(self, upstream: Table, target: Table, kind: Kind) -> Situation
+    pub(crate) fn joins(self, upstream: Table, target: Table, kind: Kind) -> Situation
         ensures { λ r. ⌜ r ≡ joins upstream target kind self ⌝ }
     {
         Situation {
@@ -59,7 +59,7 @@ impl Situation {
     }
 
     // What an access coming now needs, in its columns.
-    pub fn pending(self, kind: Kind) -> Table
+    pub(crate) fn pending(self, kind: Kind) -> Table
         ensures { λ r. ⌜ r ≡ pending kind self ⌝ }
     {
         self.need.lower(in_columns(kind))

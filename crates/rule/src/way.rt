@@ -1,13 +1,13 @@
 // The two ways of choosing a fence, and the step that an access takes.
-ghost use Prim.Native.Nat.{ℕ};
 ghost use mathlib.Core.Path.{_≡_};
 ghost use lib.ListN.{length};
-ghost use Rattle.tables.specs.Table.{atLeast};
+ghost use Rattle.ground.specs.Lowest.{lowest};
 ghost use Rattle.rule.specs.Pairs.{tableAt};
-ghost use Rattle.rule.specs.Rule.{wayNumber, lowest, last};
-ghost use Rattle.rule.specs.Situation.{choiceOf, stepped};
+ghost use Rattle.rule.specs.Rule.{wayNumber, taken, last};
+ghost use Rattle.rule.specs.Situation.{serves, choiceOf, stepped};
 ghost use Rattle.rule.specs.Sides.{targetOf};
 use crate::situation::Situation;
+use ground::Found;
 use operations::Kind;
 use tables::table::Table;
 
@@ -61,33 +61,45 @@ pub fn fence_table(fences: &[u64], number: usize) -> Table
 }
 
 // What the way puts before an access that needs `pending`.
-pub fn choose(way: Way, fences: &[u64], pending: Table) -> Choice
+fn choose(way: Way, fences: &[u64], pending: Table) -> Choice
     ensures { λ r. ⌜ r ≡ choiceOf way (now (fences .entry)) pending ⌝ }
 {
     if Table::NONE.at_least(pending) {
         return Choice::Nothing;
     }
     match way {
-        Way::Sparing => lowest_fence(fences, pending),
+        Way::Sparing => taken(lowest_fence(fences, pending)),
         Way::Full => last_fence(fences, pending),
     }
 }
 
-fn lowest_fence(fences: &[u64], pending: Table) -> Choice
-    ensures { λ r. ⌜ r ≡ lowest (λ (g : ℕ). atLeast (tableAt (now (fences .entry)) g) pending) 0 (length (now (fences .entry))) ⌝ }
+// The fence that was found, or a refusal.
+fn taken(found: Found) -> Choice
+    ensures { λ r. ⌜ r ≡ taken found ⌝ }
+{
+    match found {
+        Found::At(g) => Choice::Fence(g),
+        Found::Nowhere => Choice::Refused,
+    }
+}
+
+// The lowest-numbered fence that will do.
+fn lowest_fence(fences: &[u64], pending: Table) -> Found
+    ensures { λ r. ⌜ r ≡ lowest (serves (now (fences .entry)) pending) 0 (length (now (fences .entry))) ⌝ }
 {
     let mut g = 0;
     while g < fences.len() {
         if fence_table(fences, g).at_least(pending) {
-            return Choice::Fence(g);
+            return Found::At(g);
         }
         g += 1;
     }
-    Choice::Refused
+    Found::Nowhere
 }
 
+// The highest-numbered fence, if it will do.
 fn last_fence(fences: &[u64], pending: Table) -> Choice
-    ensures { λ r. ⌜ r ≡ last (λ (g : ℕ). atLeast (tableAt (now (fences .entry)) g) pending) (length (now (fences .entry))) ⌝ }
+    ensures { λ r. ⌜ r ≡ last (serves (now (fences .entry)) pending) (length (now (fences .entry))) ⌝ }
 {
     let n = fences.len();
     if n == 0 {

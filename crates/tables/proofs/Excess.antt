@@ -11,7 +11,7 @@ use Rattle.tables.specs.Table.{excess}
 pub excess-none : (a b : ℕ) → a ≤ b → excess a b ≡ 0
 excess-none a b h = simp (le-ltb _ _ h)
 
-pub excess-some : (a b : ℕ) → b < a → excess a b ≡ a
+excess-some : (a b : ℕ) → b < a → excess a b ≡ a
 excess-some a b h = simp (lt-ltb _ _ h)
 
 pub excess-below : (a b n : ℕ) → a < n → excess a b < n
@@ -37,21 +37,25 @@ excess-least a b x h = by (decLe a b)
     by (no l) = omega (arith, excess-some a b (omega arith))
 
 -- two numbers with the same upper bounds are equal
-pub same-bounds : (a b : ℕ) → ((x : ℕ) → a ≤ x → b ≤ x) → ((x : ℕ) → b ≤ x → a ≤ x) → a ≡ b
+same-bounds : (a b : ℕ) → ((x : ℕ) → a ≤ x → b ≤ x) → ((x : ℕ) → b ≤ x → a ≤ x) → a ≡ b
 same-bounds a b up down = omega (arith, up a (omega arith), down b (omega arith))
 
 -- what two ask together exceeds by what each does
 pub excess-of-higher : (a f o : ℕ) → excess (max a f) o ≡ max (excess a o) (excess f o)
 excess-of-higher a f o =
     same-bounds _ _
-    (λ x h. omega (arith, excess-least a o x (omega (arith, excess-lifts (max a f) o x h)), excess-least f o x (omega (arith, excess-lifts (max a f) o x h))))
+    (λ x h.
+    let l = excess-lifts (max a f) o x h in
+    omega (arith, excess-least a o x (omega (arith, l)), excess-least f o x (omega (arith, l))))
     (λ x h. excess-least (max a f) o x (omega (arith, excess-lifts a o x (omega arith), excess-lifts f o x (omega arith))))
 
 -- over the lower of two there is the excess over either
 pub excess-over-lower : (f a b : ℕ) → excess f (min a b) ≡ max (excess f a) (excess f b)
 excess-over-lower f a b =
     same-bounds _ _
-    (λ x h. omega (arith, excess-least f a x (omega (arith, excess-lifts f (min a b) x h)), excess-least f b x (omega (arith, excess-lifts f (min a b) x h))))
+    (λ x h.
+    let l = excess-lifts f (min a b) x h in
+    omega (arith, excess-least f a x (omega (arith, l)), excess-least f b x (omega (arith, l))))
     (λ x h. excess-least f (min a b) x (omega (arith, excess-lifts f a x (omega arith), excess-lifts f b x (omega arith))))
 
 -- over the higher of two there is what exceeds the one and then the other

@@ -13,7 +13,8 @@ use Rattle.tables.specs.declared.table.Row.{Row}
 use Rattle.tables.specs.declared.table.Column.{Column}
 use Rattle.tables.specs.declared.table.Table.{Table}
 use Rattle.tables.specs.Cells.{digit, packed}
-use Rattle.tables.specs.Table.{rowNumber, columnNumber, cells, place, cell, rowOf, columnOf, table, Clean, excess, Merge, merged, mergedTable, pickedTable, atLeast, levelsTable}
+use Rattle.tables.specs.Table.{rowNumber, columnNumber, cells, place, cell, rowOf, columnOf, table, Clean, excess, Merge, merged, mergedTable, atLeast, levelsTable}
+use Rattle.tables.specs.inner.Planes.{pickedTable}
 use Rattle.tables.proofs.Excess.{excess-none, excess-below, excess-lifts}
 use Rattle.tables.proofs.Packed.{packed-below, packed-cong, digit-packed, packed-own}
 
@@ -77,7 +78,7 @@ at-place f r c =
     ap₂ f (ap rowOf a ∙ row-own r) (ap columnOf b ∙ column-own c)
 
 -- a table has the cells that it was made of
-pub cell-table : (f : Row → Column → ℕ) (r : Row) (c : Column) → cell (table f) r c ≡ f r c % 4
+cell-table : (f : Row → Column → ℕ) (r : Row) (c : Column) → cell (table f) r c ≡ f r c % 4
 unfolding table
 cell-table f r c =
     digit-packed (λ (i : ℕ). f (rowOf (i / 4)) (columnOf (i % 4))) cells (place r c) (omega (arith, row-below r, column-below c))
@@ -108,11 +109,7 @@ table-own t h =
     (λ i l. ap (digit (t .packed)) (place-own i l))
     ∙ packed-own (t .packed) cells h)
 
--- two tables without stray bits whose cells agree are equal
-pub same-cells : (a b : Table) → Clean a → Clean b → ((r : Row) (c : Column) → cell a r c ≡ cell b r c) → a ≡ b
-same-cells a b ca cb h = sym (table-own a ca) ∙ table-cong (cell a) (cell b) h ∙ table-own b cb
-
-pub merged-below : (how : Merge) (a b : ℕ) → a < 4 → b < 4 → merged how a b < 4
+merged-below : (how : Merge) (a b : ℕ) → a < 4 → b < 4 → merged how a b < 4
 merged-below Merge.Higher a b la lb = omega arith
 merged-below Merge.Lower a b la lb = omega arith
 merged-below Merge.Exceeding a b la lb = excess-below a b 4 la
@@ -135,14 +132,14 @@ pub cell-none : (r : Row) (c : Column) → cell (record { packed = 0 }) r c ≡ 
 cell-none r c = ap (λ (n : ℕ). n % 4) (zero-div (2 ^ (2 * place r c)))
 
 -- what is picked place by place is the picked table
-pub picked-places : (a b x y : Table)
-    → record { packed = packed (λ (i : ℕ). cond (ltb (digit (b .packed) i) (digit (a .packed) i)) (digit (x .packed) i) (digit (y .packed) i)) cells }
-    ≡ pickedTable a b x y
+abbrev pickedAt : Table → Table → Table → Table → ℕ → ℕ
+pickedAt a b x y i = cond (ltb (digit (b .packed) i) (digit (a .packed) i)) (digit (x .packed) i) (digit (y .packed) i)
+
+pub picked-places : (a b x y : Table) → record { packed = packed (pickedAt a b x y) cells } ≡ pickedTable a b x y
 unfolding pickedTable table
 picked-places a b x y =
     ap (λ (n : ℕ). record { packed = n })
-    (packed-cong (λ (i : ℕ). cond (ltb (digit (b .packed) i) (digit (a .packed) i)) (digit (x .packed) i) (digit (y .packed) i)) _ cells
-    (λ i l. ap (λ (k : ℕ). cond (ltb (digit (b .packed) k) (digit (a .packed) k)) (digit (x .packed) k) (digit (y .packed) k)) (sym (place-own i l))))
+    (packed-cong (pickedAt a b x y) _ cells (λ i l. ap (pickedAt a b x y) (sym (place-own i l))))
 
 -- the three tables made of two are picked so
 module _ (a b : Table) where
@@ -171,10 +168,6 @@ module _ (a b : Table) where
   pub picked-exceeding : pickedTable a b a (record { packed = 0 }) ≡ mergedTable Merge.Exceeding a b
   unfolding pickedTable
   picked-exceeding = table-merged Merge.Exceeding a b _ (λ r c. ap (cond (ltb (cell b r c) (cell a r c)) (cell a r c)) (cell-none r c))
-
-pub merged-clean : (how : Merge) (a b : Table) → Clean (mergedTable how a b)
-unfolding mergedTable
-merged-clean how a b = table-clean _
 
 -- a table whose cells are all `-` is the number 0
 table-none : table (λ (r : Row) (c : Column). 0) ≡ record { packed = 0 }

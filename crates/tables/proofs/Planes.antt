@@ -7,7 +7,8 @@ use native.Mathlib.Nat.{add-mul, mul-assoc, add-comm, mod-eq-of-lt, mod-lt, div-
 use native.Mathlib.Omega.{arith}
 use lib.Bits.{bitAnd, bitOr, bitXor, and-block, or-block, xor-block, and-lt, or-lt, xor-lt, and-shr, and-mod, and-mask, and-le-r}
 use lib.Dec.{ltb}
-use Rattle.tables.specs.Cells.{digit, packed, ones, over}
+use Rattle.tables.specs.Cells.{digit, packed}
+use Rattle.tables.specs.inner.Planes.{ones, over, overPlane}
 use Rattle.tables.proofs.Packed.{packed-below, packed-cong, packed-own, digit-packed}
 
 -- an operation that goes block by block goes cell by cell
@@ -23,8 +24,17 @@ module _ (op : ℕ → ℕ → ℕ) (none : op 0 0 ≡ 0)
       ∙ ap₂ (λ (p d : ℕ). p + d * 2 ^ (2 * n)) (cellwise f g n)
       (sym (mod-eq-of-lt (below 2 (f n % 4) (g n % 4) (mod-lt (f n) (omega arith)) (mod-lt (g n) (omega arith)))))
 
--- a plane holds a bit in each cell
-abbrev pub Bits : (ℕ → ℕ) → Type 0
+-- a plane holds a bit in each cell: the higher bits of a number's cells, the lower ones, those that say where one number exceeds another
+abbrev highs : ℕ → ℕ → ℕ
+highs t i = digit t i / 2
+
+abbrev lows : ℕ → ℕ → ℕ
+lows t i = digit t i % 2
+
+abbrev overs : ℕ → ℕ → ℕ → ℕ
+overs a b i = over (digit a i) (digit b i)
+
+abbrev Bits : (ℕ → ℕ) → Type 0
 Bits f = (i : ℕ) → f i < 2
 
 -- on bits the three operations are the lower, the higher, and what is left to 1
@@ -52,13 +62,13 @@ not-bit (suc zero) l = refl
 not-bit (suc (suc x)) l = absurd (omega arith)
 
 module _ (f g : ℕ → ℕ) (bf : Bits f) (bg : Bits g) (n : ℕ) where
-  pub and-planes : bitAnd (packed f n) (packed g n) ≡ packed (λ (i : ℕ). min (f i) (g i)) n
+  and-planes : bitAnd (packed f n) (packed g n) ≡ packed (λ (i : ℕ). min (f i) (g i)) n
   and-planes = cellwise bitAnd refl and-block and-lt f g n ∙ packed-cong _ _ n (λ i l. and-bit (f i) (g i) (bf i) (bg i))
 
-  pub or-planes : bitOr (packed f n) (packed g n) ≡ packed (λ (i : ℕ). max (f i) (g i)) n
+  or-planes : bitOr (packed f n) (packed g n) ≡ packed (λ (i : ℕ). max (f i) (g i)) n
   or-planes = cellwise bitOr refl or-block or-lt f g n ∙ packed-cong _ _ n (λ i l. or-bit (f i) (g i) (bf i) (bg i))
 
-pub not-plane : (f : ℕ → ℕ) → Bits f → (n : ℕ) → bitXor (packed f n) (packed (λ (i : ℕ). 1) n) ≡ packed (λ (i : ℕ). 1 - f i) n
+not-plane : (f : ℕ → ℕ) → Bits f → (n : ℕ) → bitXor (packed f n) (packed (λ (i : ℕ). 1) n) ≡ packed (λ (i : ℕ). 1 - f i) n
 not-plane f bf n = cellwise bitXor refl xor-block xor-lt f (λ (i : ℕ). 1) n ∙ packed-cong _ _ n (λ i l. not-bit (f i) (bf i))
 
 ones-digit : (i : ℕ) → i < 16 → digit ones i ≡ 1
@@ -83,28 +93,31 @@ plane-digit t i l =
 plane-below : (t : ℕ) → bitAnd t ones < 2 ^ (2 * 16)
 plane-below t = omega (arith, and-le-r t ones)
 
-pub low-plane : (t : ℕ) → bitAnd t ones ≡ packed (λ (i : ℕ). digit t i % 2) 16
+low-plane : (t : ℕ) → bitAnd t ones ≡ packed (lows t) 16
 low-plane t = by-cells (bitAnd t ones) _ (plane-below t) (λ i l. plane-digit t i l ∙ twice (t / 2 ^ (2 * i)))
   where
     twice : (x : ℕ) → x % 2 ≡ x % 4 % 2
     twice x = omega arith
 
-pub high-plane : (t : ℕ) → bitAnd (t / 2) ones ≡ packed (λ (i : ℕ). digit t i / 2) 16
+high-plane : (t : ℕ) → bitAnd (t / 2) ones ≡ packed (highs t) 16
 high-plane t =
     by-cells (bitAnd (t / 2) ones) _ (plane-below (t / 2))
     (λ i l. plane-digit (t / 2) i l ∙ ap (λ (m : ℕ). m % 2) (halves i) ∙ upper (t / 2 ^ (2 * i)))
   where
     halves : (i : ℕ) → t / 2 / 2 ^ (2 * i) ≡ t / 2 ^ (2 * i) / 2
-    halves i = div-div-eq-div-mul t 2 (2 ^ (2 * i)) ∙ ap (λ (m : ℕ). t / m) (mul-comm 2 (2 ^ (2 * i))) ∙ sym (div-div-eq-div-mul t (2 ^ (2 * i)) 2)
+    halves i =
+        div-div-eq-div-mul t 2 (2 ^ (2 * i)) ∙ ap (λ (m : ℕ). t / m) (mul-comm 2 (2 ^ (2 * i)))
+        ∙ sym (div-div-eq-div-mul t (2 ^ (2 * i)) 2)
 
     upper : (x : ℕ) → x / 2 % 2 ≡ x % 4 / 2
     upper x = omega arith
 
 -- two planes make cells again
-pub joined-planes : (h l : ℕ → ℕ) → Bits h → Bits l → (n : ℕ) → 2 * packed h n + packed l n ≡ packed (λ (i : ℕ). 2 * h i + l i) n
+joined-planes : (h l : ℕ → ℕ) → Bits h → Bits l → (n : ℕ) → 2 * packed h n + packed l n ≡ packed (λ (i : ℕ). 2 * h i + l i) n
 joined-planes h l bh bl zero = refl
 joined-planes h l bh bl (suc n) =
-    ap₂ (λ (x y : ℕ). 2 * (packed h n + x * 2 ^ (2 * n)) + (packed l n + y * 2 ^ (2 * n))) (mod-eq-of-lt (omega (arith, bh n))) (mod-eq-of-lt (omega (arith, bl n)))
+    ap₂ (λ (x y : ℕ). 2 * (packed h n + x * 2 ^ (2 * n)) + (packed l n + y * 2 ^ (2 * n)))
+    (mod-eq-of-lt (omega (arith, bh n))) (mod-eq-of-lt (omega (arith, bl n)))
     ∙ regroup (packed h n) (packed l n) (h n) (l n) (2 ^ (2 * n))
     ∙ ap₂ (λ (p d : ℕ). p + d * 2 ^ (2 * n)) (joined-planes h l bh bl n) (sym (mod-eq-of-lt (omega (arith, bh n, bl n))))
   where
@@ -119,18 +132,20 @@ below-four P a b c d (suc (suc zero)) l = c
 below-four P a b c d (suc (suc (suc zero))) l = d
 below-four P a b c d (suc (suc (suc (suc n)))) l = absurd (omega arith)
 
-over-is : (x y : ℕ) → x < 4 → y < 4 → over x y ≡ cond (ltb y x) 1 0
-over-is x y lx ly = below-four (λ (x : ℕ). over x y ≡ cond (ltb y x) 1 0) (first 0 refl refl refl refl) (first 1 refl refl refl refl) (first 2 refl refl refl refl) (first 3 refl refl refl refl) x lx
+-- the bits say what the numbers do
+abbrev OverIs : ℕ → ℕ → Type 0
+OverIs x y = over x y ≡ cond (ltb y x) 1 0
+
+over-is : (x y : ℕ) → x < 4 → y < 4 → OverIs x y
+over-is x y lx ly =
+    below-four (λ (x : ℕ). OverIs x y)
+    (first 0 refl refl refl refl) (first 1 refl refl refl refl) (first 2 refl refl refl refl) (first 3 refl refl refl refl) x lx
   where
-    first : (x : ℕ) → over x 0 ≡ cond (ltb 0 x) 1 0 → over x 1 ≡ cond (ltb 1 x) 1 0 → over x 2 ≡ cond (ltb 2 x) 1 0 → over x 3 ≡ cond (ltb 3 x) 1 0
-        → over x y ≡ cond (ltb y x) 1 0
-    first x a b c d = below-four (λ (y : ℕ). over x y ≡ cond (ltb y x) 1 0) a b c d y ly
+    first : (x : ℕ) → OverIs x 0 → OverIs x 1 → OverIs x 2 → OverIs x 3 → OverIs x y
+    first x a b c d = below-four (OverIs x) a b c d y ly
 
 bit-min : (p q : ℕ) → min p (1 - q) ≤ 1
 bit-min p q = omega arith
-
-at-most-one : (n : ℕ) → n ≤ 1 → n < 2
-at-most-one n l = omega arith
 
 bit-max : (p q : ℕ) → p ≤ 1 → q ≤ 1 → max p q < 2
 bit-max p q l m = omega arith
@@ -138,8 +153,11 @@ bit-max p q l m = omega arith
 over-bit : (x y : ℕ) → over x y < 2
 over-bit x y = bit-max _ _ (bit-min (x / 2) (y / 2)) (bit-min (min (max (x / 2) (1 - y / 2)) (x % 2)) (y % 2))
 
-half-bit : (t i : ℕ) → digit t i / 2 < 2
+half-bit : (t i : ℕ) → highs t i < 2
 half-bit t i = omega (arith, mod-lt (t / 2 ^ (2 * i)) {m = 4} (omega arith))
+
+low-bit : (t i : ℕ) → lows t i < 2
+low-bit t i = mod-lt _ (omega arith)
 
 left-bit : (x : ℕ) → 1 - x < 2
 left-bit x = omega arith
@@ -148,76 +166,86 @@ min-bit : (p q : ℕ) → q < 2 → min p q < 2
 min-bit p q l = omega arith
 
 -- one bit where a test passes, the other where it does not
-abbrev pub pick : ℕ → ℕ → ℕ → ℕ
+abbrev pick : ℕ → ℕ → ℕ → ℕ
 pick g x y = max (min x g) (min y (1 - g))
 
-pick-cell : (t : Bool) (x y : ℕ) → x < 4 → y < 4 → 2 * pick (cond t 1 0) (x / 2) (y / 2) + pick (cond t 1 0) (x % 2) (y % 2) ≡ cond t x y
+pick-bit : (g p q : ℕ) → p < 2 → q < 2 → pick g p q < 2
+pick-bit g p q lp lq = omega arith
+
+pick-cell : (t : Bool) (x y : ℕ) → x < 4 → y < 4
+    → 2 * pick (cond t 1 0) (x / 2) (y / 2) + pick (cond t 1 0) (x % 2) (y % 2) ≡ cond t x y
 pick-cell true x y lx ly = omega arith
 pick-cell false x y lx ly = omega arith
 
 module _ (a b : ℕ) where
-  -- the bits that say where a exceeds b, as the code computes them
-  pub exceeds-plane : bitOr (bitAnd (bitAnd (a / 2) ones) (bitXor (bitAnd (b / 2) ones) ones))
-      (bitAnd (bitAnd (bitOr (bitAnd (a / 2) ones) (bitXor (bitAnd (b / 2) ones) ones)) (bitAnd a ones)) (bitXor (bitAnd b ones) ones))
-      ≡ packed (λ (i : ℕ). over (digit a i) (digit b i)) 16
-  exceeds-plane =
-      let nh = ap (λ (m : ℕ). bitXor m ones) (high-plane b) ∙ not-plane (λ (i : ℕ). digit b i / 2) (half-bit b) 16 in
-      let nl = ap (λ (m : ℕ). bitXor m ones) (low-plane b) ∙ not-plane (λ (i : ℕ). digit b i % 2) (λ i. mod-lt _ (omega arith)) 16 in
-      let first = ap₂ bitAnd (high-plane a) nh ∙ and-planes (λ (i : ℕ). digit a i / 2) (λ (i : ℕ). 1 - digit b i / 2) (half-bit a) (λ i. left-bit (digit b i / 2)) 16 in
-      let either = ap₂ bitOr (high-plane a) nh ∙ or-planes (λ (i : ℕ). digit a i / 2) (λ (i : ℕ). 1 - digit b i / 2) (half-bit a) (λ i. left-bit (digit b i / 2)) 16 in
-      let low-too = ap₂ bitAnd either (low-plane a)
-      ∙ and-planes (λ (i : ℕ). max (digit a i / 2) (1 - digit b i / 2)) (λ (i : ℕ). digit a i % 2)
-      (λ i. bit-max (digit a i / 2) (1 - digit b i / 2) (omega (arith, half-bit a i)) (omega arith)) (λ i. mod-lt _ (omega arith)) 16 in
-      let second = ap₂ bitAnd low-too nl
-      ∙ and-planes (λ (i : ℕ). min (max (digit a i / 2) (1 - digit b i / 2)) (digit a i % 2)) (λ (i : ℕ). 1 - digit b i % 2)
-      (λ i. min-bit (max (digit a i / 2) (1 - digit b i / 2)) (digit a i % 2) (mod-lt _ (omega arith))) (λ i. left-bit (digit b i % 2)) 16 in
-      ap₂ bitOr first second
-      ∙ or-planes (λ (i : ℕ). min (digit a i / 2) (1 - digit b i / 2))
-      (λ (i : ℕ). min (min (max (digit a i / 2) (1 - digit b i / 2)) (digit a i % 2)) (1 - digit b i % 2))
-      (λ i. min-bit (digit a i / 2) (1 - digit b i / 2) (left-bit (digit b i / 2)))
-      (λ i. min-bit (min (max (digit a i / 2) (1 - digit b i / 2)) (digit a i % 2)) (1 - digit b i % 2) (left-bit (digit b i % 2))) 16
+  -- where the higher bit of b is not set, where its lower bit is not, and where the higher bit of a is set or that of b is not
+  no-high : ℕ → ℕ
+  no-high i = 1 - highs b i
 
--- one plane picked from two by a third
+  no-low : ℕ → ℕ
+  no-low i = 1 - lows b i
+
+  not-below : ℕ → ℕ
+  not-below i = max (highs a i) (no-high i)
+
+  -- the bits that say where a exceeds b, as the code computes them
+  exceeds-plane : bitOr (bitAnd (bitAnd (a / 2) ones) (bitXor (bitAnd (b / 2) ones) ones))
+      (bitAnd (bitAnd (bitOr (bitAnd (a / 2) ones) (bitXor (bitAnd (b / 2) ones) ones)) (bitAnd a ones)) (bitXor (bitAnd b ones) ones))
+      ≡ overPlane a b
+  unfolding no-high no-low not-below
+  exceeds-plane =
+      let nh = ap (λ (m : ℕ). bitXor m ones) (high-plane b) ∙ not-plane (highs b) (half-bit b) 16 in
+      let nl = ap (λ (m : ℕ). bitXor m ones) (low-plane b) ∙ not-plane (lows b) (low-bit b) 16 in
+      let first = ap₂ bitAnd (high-plane a) nh ∙ and-planes (highs a) no-high (half-bit a) (λ i. left-bit (highs b i)) 16 in
+      let either = ap₂ bitOr (high-plane a) nh ∙ or-planes (highs a) no-high (half-bit a) (λ i. left-bit (highs b i)) 16 in
+      let low-too = ap₂ bitAnd either (low-plane a)
+      ∙ and-planes not-below (lows a)
+      (λ i. bit-max (highs a i) (no-high i) (omega (arith, half-bit a i)) (omega arith)) (low-bit a) 16 in
+      let second = ap₂ bitAnd low-too nl
+      ∙ and-planes (λ (i : ℕ). min (not-below i) (lows a i)) no-low
+      (λ i. min-bit (not-below i) (lows a i) (low-bit a i)) (λ i. left-bit (lows b i)) 16 in
+      ap₂ bitOr first second
+      ∙ or-planes (λ (i : ℕ). min (highs a i) (no-high i)) (λ (i : ℕ). min (min (not-below i) (lows a i)) (no-low i))
+      (λ i. min-bit (highs a i) (no-high i) (left-bit (highs b i)))
+      (λ i. min-bit (min (not-below i) (lows a i)) (no-low i) (left-bit (lows b i))) 16
+
+-- one plane picked from two by a third, as the code does it
+abbrev pickBits : ℕ → ℕ → ℕ → ℕ
+pickBits at x y = bitOr (bitAnd x at) (bitAnd y (bitXor at ones))
+
 picked-plane : (g f h : ℕ → ℕ) → Bits g → Bits f → Bits h
-    → bitOr (bitAnd (packed f 16) (packed g 16)) (bitAnd (packed h 16) (bitXor (packed g 16) ones)) ≡ packed (λ (i : ℕ). pick (g i) (f i) (h i)) 16
+    → pickBits (packed g 16) (packed f 16) (packed h 16) ≡ packed (λ (i : ℕ). pick (g i) (f i) (h i)) 16
 picked-plane g f h bg bf bh =
     ap₂ bitOr (and-planes f g bf bg 16)
     (ap (bitAnd (packed h 16)) (not-plane g bg 16) ∙ and-planes h (λ (i : ℕ). 1 - g i) bh (λ i. left-bit (g i)) 16)
-    ∙ or-planes (λ (i : ℕ). min (f i) (g i)) (λ (i : ℕ). min (h i) (1 - g i)) (λ i. min-bit (f i) (g i) (bg i)) (λ i. min-bit (h i) (1 - g i) (left-bit (g i))) 16
+    ∙ or-planes (λ (i : ℕ). min (f i) (g i)) (λ (i : ℕ). min (h i) (1 - g i))
+    (λ i. min-bit (f i) (g i) (bg i)) (λ i. min-bit (h i) (1 - g i) (left-bit (g i))) 16
 
 -- the cells of x where a exceeds b, and of y elsewhere: their two planes, picked and joined
 module _ (a b x y : ℕ) where
-  pub picked-high : bitOr (bitAnd (bitAnd (x / 2) ones) (packed (λ (i : ℕ). over (digit a i) (digit b i)) 16))
-      (bitAnd (bitAnd (y / 2) ones) (bitXor (packed (λ (i : ℕ). over (digit a i) (digit b i)) 16) ones))
-      ≡ packed (λ (i : ℕ). pick (over (digit a i) (digit b i)) (digit x i / 2) (digit y i / 2)) 16
+  abbrev pub pickedHighs : ℕ → ℕ
+  pickedHighs i = pick (overs a b i) (highs x i) (highs y i)
+
+  abbrev pub pickedLows : ℕ → ℕ
+  pickedLows i = pick (overs a b i) (lows x i) (lows y i)
+
+  picked-high : pickBits (overPlane a b) (bitAnd (x / 2) ones) (bitAnd (y / 2) ones) ≡ packed pickedHighs 16
   picked-high =
-      ap₂ (λ (p q : ℕ). bitOr (bitAnd p (packed (λ (i : ℕ). over (digit a i) (digit b i)) 16)) (bitAnd q (bitXor (packed (λ (i : ℕ). over (digit a i) (digit b i)) 16) ones)))
-      (high-plane x) (high-plane y)
-      ∙ picked-plane (λ (i : ℕ). over (digit a i) (digit b i)) (λ (i : ℕ). digit x i / 2) (λ (i : ℕ). digit y i / 2)
-      (λ i. over-bit (digit a i) (digit b i)) (half-bit x) (half-bit y)
+      ap₂ (pickBits (overPlane a b)) (high-plane x) (high-plane y)
+      ∙ picked-plane (overs a b) (highs x) (highs y) (λ i. over-bit (digit a i) (digit b i)) (half-bit x) (half-bit y)
 
-  pub picked-low : bitOr (bitAnd (bitAnd x ones) (packed (λ (i : ℕ). over (digit a i) (digit b i)) 16))
-      (bitAnd (bitAnd y ones) (bitXor (packed (λ (i : ℕ). over (digit a i) (digit b i)) 16) ones))
-      ≡ packed (λ (i : ℕ). pick (over (digit a i) (digit b i)) (digit x i % 2) (digit y i % 2)) 16
+  picked-low : pickBits (overPlane a b) (bitAnd x ones) (bitAnd y ones) ≡ packed pickedLows 16
   picked-low =
-      ap₂ (λ (p q : ℕ). bitOr (bitAnd p (packed (λ (i : ℕ). over (digit a i) (digit b i)) 16)) (bitAnd q (bitXor (packed (λ (i : ℕ). over (digit a i) (digit b i)) 16) ones)))
-      (low-plane x) (low-plane y)
-      ∙ picked-plane (λ (i : ℕ). over (digit a i) (digit b i)) (λ (i : ℕ). digit x i % 2) (λ (i : ℕ). digit y i % 2)
-      (λ i. over-bit (digit a i) (digit b i)) (λ i. mod-lt _ (omega arith)) (λ i. mod-lt _ (omega arith))
+      ap₂ (pickBits (overPlane a b)) (low-plane x) (low-plane y)
+      ∙ picked-plane (overs a b) (lows x) (lows y) (λ i. over-bit (digit a i) (digit b i)) (low-bit x) (low-bit y)
 
-  pick-bit : (g p q : ℕ) → p < 2 → q < 2 → pick g p q < 2
-  pick-bit g p q lp lq = omega arith
-
-  pub picked-joined :
-      2 * packed (λ (i : ℕ). pick (over (digit a i) (digit b i)) (digit x i / 2) (digit y i / 2)) 16
-      + packed (λ (i : ℕ). pick (over (digit a i) (digit b i)) (digit x i % 2) (digit y i % 2)) 16
+  pub picked-joined : 2 * packed pickedHighs 16 + packed pickedLows 16
       ≡ packed (λ (i : ℕ). cond (ltb (digit b i) (digit a i)) (digit x i) (digit y i)) 16
   picked-joined =
-      joined-planes (λ (i : ℕ). pick (over (digit a i) (digit b i)) (digit x i / 2) (digit y i / 2))
-      (λ (i : ℕ). pick (over (digit a i) (digit b i)) (digit x i % 2) (digit y i % 2))
-      (λ i. pick-bit _ _ _ (half-bit x i) (half-bit y i)) (λ i. pick-bit _ _ _ (mod-lt _ (omega arith)) (mod-lt _ (omega arith))) 16
+      joined-planes pickedHighs pickedLows
+      (λ i. pick-bit _ _ _ (half-bit x i) (half-bit y i)) (λ i. pick-bit _ _ _ (low-bit x i) (low-bit y i)) 16
       ∙ packed-cong _ _ 16 (λ i l.
-      ap (λ (g : ℕ). 2 * pick g (digit x i / 2) (digit y i / 2) + pick g (digit x i % 2) (digit y i % 2))
+      ap (λ (g : ℕ). 2 * pick g (highs x i) (highs y i) + pick g (lows x i) (lows y i))
       (over-is (digit a i) (digit b i) (mod-lt _ (omega arith)) (mod-lt _ (omega arith)))
       ∙ pick-cell (ltb (digit b i) (digit a i)) (digit x i) (digit y i) (mod-lt _ (omega arith)) (mod-lt _ (omega arith)))
 
@@ -228,16 +256,16 @@ plane-fits t f e = subst (λ (n : ℕ). n < 2 ^ 32) (sym e) (packed-below f 16)
 -- the same for planes that the code has at hand
 
 pub exceeds-from : (a b ah bh al bl : ℕ) → ah ≡ bitAnd (a / 2) ones → bh ≡ bitAnd (b / 2) ones → al ≡ bitAnd a ones → bl ≡ bitAnd b ones
-    → bitOr (bitAnd ah (bitXor bh ones)) (bitAnd (bitAnd (bitOr ah (bitXor bh ones)) al) (bitXor bl ones))
-    ≡ packed (λ (i : ℕ). over (digit a i) (digit b i)) 16
+    → bitOr (bitAnd ah (bitXor bh ones)) (bitAnd (bitAnd (bitOr ah (bitXor bh ones)) al) (bitXor bl ones)) ≡ overPlane a b
 exceeds-from a b ah bh al bl p q r s =
-    (λ d. bitOr (bitAnd (p d) (bitXor (q d) ones)) (bitAnd (bitAnd (bitOr (p d) (bitXor (q d) ones)) (r d)) (bitXor (s d) ones))) ∙ exceeds-plane a b
+    (λ d. bitOr (bitAnd (p d) (bitXor (q d) ones)) (bitAnd (bitAnd (bitOr (p d) (bitXor (q d) ones)) (r d)) (bitXor (s d) ones)))
+    ∙ exceeds-plane a b
 
-module _ (a b x y : ℕ) (at : ℕ) (is : at ≡ packed (λ (i : ℕ). over (digit a i) (digit b i)) 16) where
+module _ (a b x y at : ℕ) (is : at ≡ overPlane a b) where
   pub high-from : (p q : ℕ) → p ≡ bitAnd (x / 2) ones → q ≡ bitAnd (y / 2) ones
-      → bitOr (bitAnd p at) (bitAnd q (bitXor at ones)) ≡ packed (λ (i : ℕ). pick (over (digit a i) (digit b i)) (digit x i / 2) (digit y i / 2)) 16
-  high-from p q e f = (λ d. bitOr (bitAnd (e d) (is d)) (bitAnd (f d) (bitXor (is d) ones))) ∙ picked-high a b x y
+      → bitOr (bitAnd p at) (bitAnd q (bitXor at ones)) ≡ packed (pickedHighs a b x y) 16
+  high-from p q e f = (λ d. pickBits (is d) (e d) (f d)) ∙ picked-high a b x y
 
   pub low-from : (p q : ℕ) → p ≡ bitAnd x ones → q ≡ bitAnd y ones
-      → bitOr (bitAnd p at) (bitAnd q (bitXor at ones)) ≡ packed (λ (i : ℕ). pick (over (digit a i) (digit b i)) (digit x i % 2) (digit y i % 2)) 16
-  low-from p q e f = (λ d. bitOr (bitAnd (e d) (is d)) (bitAnd (f d) (bitXor (is d) ones))) ∙ picked-low a b x y
+      → bitOr (bitAnd p at) (bitAnd q (bitXor at ones)) ≡ packed (pickedLows a b x y) 16
+  low-from p q e f = (λ d. pickBits (is d) (e d) (f d)) ∙ picked-low a b x y

@@ -1,5 +1,5 @@
 -- A number read as cells of two bits each, the first lowest: how a table is packed. Only this crate looks at the bits.
-use Prim.Native.Nat.{ℕ, zero, suc, _+_, _*_, _-_, _/_, _%_, _^_, max, min}
+use Prim.Native.Nat.{ℕ, zero, suc, _+_, _*_, _/_, _%_, _^_}
 
 -- the cell at a place
 abbrev pub digit : ℕ → ℕ → ℕ
@@ -9,11 +9,3 @@ digit t i = t / 2 ^ (2 * i) % 4
 abbrev pub packed : (ℕ → ℕ) → ℕ → ℕ
 packed f zero = 0
 packed f (suc n) = packed f n + f n % 4 * 2 ^ (2 * n)
-
--- a bit in each of sixteen cells
-abbrev pub ones : ℕ
-ones = 0x5555_5555
-
--- 1 where the first of two cells exceeds the second, told by their bits; else 0
-abbrev pub over : ℕ → ℕ → ℕ
-over x y = max (min (x / 2) (1 - y / 2)) (min (min (max (x / 2) (1 - y / 2)) (x % 2)) (1 - y % 2))

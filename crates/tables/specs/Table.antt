@@ -66,10 +66,6 @@ merged Merge.Exceeding a b = excess a b
 unfoldable pub mergedTable : Merge → Table → Table → Table
 mergedTable how a b = table (λ (r : Row) (c : Column). merged how (cell a r c) (cell b r c))
 
--- the cells of x where a exceeds b, and of y elsewhere
-unfoldable pub pickedTable : Table → Table → Table → Table → Table
-pickedTable a b x y = table (λ (r : Row) (c : Column). cond (ltb (cell b r c) (cell a r c)) (cell x r c) (cell y r c))
-
 -- the higher of each cell; the lower of each cell; each cell of the first where it exceeds that of the second
 abbrev pub higher : Table → Table → Table
 higher = mergedTable Merge.Higher

@@ -1,10 +1,11 @@
 // Tables of sixteen cells, packed in one number of row bytes: the first row lowest, in a row the first column lowest. A fifth row has
 // room above the fourth.
-ghost use Prim.Native.Nat.{ℕ, _+_, _*_, _/_, _^_, _<_};
+ghost use Prim.Native.Nat.{_+_, _*_, _/_, _^_, _<_};
 ghost use mathlib.Core.Path.{_≡_};
 ghost use lib.Bits.{bitAnd, bitOr, bitXor};
-ghost use Rattle.tables.specs.Cells.{digit, packed, ones, over};
-ghost use Rattle.tables.specs.Table.{rowNumber, columnNumber, place, cells, cell, higher, lower, exceeding, atLeast, rowTable, columnTable, levelsTable, pickedTable};
+ghost use Rattle.tables.specs.Cells.{digit};
+ghost use Rattle.tables.specs.Table.{rowNumber, columnNumber, place, cells, cell, higher, lower, exceeding, atLeast, rowTable, columnTable, levelsTable};
+ghost use Rattle.tables.specs.inner.Planes.{ones, overPlane, pickedTable};
 use crate::strength::Strength;
 
 // The earlier access of a pair, by its kind.
@@ -183,7 +184,7 @@ fn low_bits(t: u64) -> u64
 
 // A bit where the first cell exceeds the second: its higher bit is above the other's, or not below it and its lower bit is above.
 fn exceeds(a: u64, b: u64) -> u64
-    ensures { λ r. ⌜ r ≡ packed (λ (i : ℕ). over (digit a i) (digit b i)) cells ⌝ }
+    ensures { λ r. ⌜ r ≡ overPlane a b ⌝ }
 {
     let high = high_bits(a);
     let no_high = high_bits(b) ^ ONES;

@@ -1,4 +1,4 @@
--- `last_fence` meets its contract. Assumes nothing.
+-- `last_fence` meets its contract: the last of n fences is n - 1, and its table is tested. Assumes nothing.
 use Prim.Native.Nat.{ℕ, _<_}
 use mathlib.Core.Path.{_≡_, sym, ap}
 use mathlib.Core.Bool.{true, false}
@@ -6,7 +6,8 @@ use native.Mathlib.Omega.{arith}
 use borrow.Author.Needs.{needs}
 use denote.Ref.{now}
 use Rattle.rule.specs.Rule.{last}
-use Rattle.rule.proofs.Choices.{serves, told, last-of}
+use Rattle.rule.specs.Situation.{serves}
+use Rattle.rule.proofs.Choices.{told, last-of}
 use Rattle.rule.proofs.way.last_fence.Statement.{statement}
 use Rattle.rule.proofs.way.last_fence.Tie as tie
 

@@ -48,8 +48,8 @@ by-choice way up t s k c e f g = ap (stepOf up t s k) (sym (e ∙ ap (choiceOf w
 
 returns : tie.Need-returns
 returns c =
-    let a = c .before .before .before .before .before .before .args in
     let o = c .before .before .before in
+    let a = o .before .before .before .args in
     ap Step.Plain (c .joins .ensures)
     ∙ sym
     (by-choice (a .shim .way) (a .shim .upstream) (targetOf (a .shim) (now (a .fences))) (a .situation) (a .kind) Choice.Nothing
@@ -57,20 +57,21 @@ returns c =
 
 returns-2 : tie.Need-returns-2
 returns-2 c =
-    let a = c .before .before .before .before .before .before .before .before .before .args in
-    let o = c .before .before .before .before .before .before in
-    ap (Step.Fenced (c .before .before .before .before .choice .given .0 .0))
+    let told = c .before .before .before .before in
+    let o = told .before .before in
+    let a = o .before .before .before .args in
+    ap (Step.Fenced (told .choice .given .0 .0))
     (c .joins2 .ensures
     ∙ ap (joins (a .shim .upstream) (a .shim .target) (a .kind))
     (c .before .offers .ensures ∙ ap (λ (t : Table). offers t (a .situation)) (c .before .before .fence-table .ensures)))
     ∙ sym
     (by-choice (a .shim .way) (a .shim .upstream) (targetOf (a .shim) (now (a .fences))) (a .situation) (a .kind) (Choice.Fence _)
-    (o .choose .ensures) (o .before .pending .ensures) (c .before .before .before .before .choice .given .1))
+    (o .choose .ensures) (o .before .pending .ensures) (told .choice .given .1))
 
 returns-3 : tie.Need-returns-3
 returns-3 c =
-    let a = c .before .before .before .before .before .args in
     let o = c .before .before in
+    let a = o .before .before .before .args in
     sym
     (by-choice (a .shim .way) (a .shim .upstream) (targetOf (a .shim) (now (a .fences))) (a .situation) (a .kind) Choice.Refused
     (o .choose .ensures) (o .before .pending .ensures) (c .enum-told2 .given .1))

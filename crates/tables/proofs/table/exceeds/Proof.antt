@@ -1,4 +1,4 @@
--- `exceeds` meets its contract. Assumes nothing.
+-- `exceeds` meets its contract: each bitwise operation on whole planes is that operation in each cell. Assumes nothing.
 use borrow.Author.Needs.{needs}
 use Rattle.tables.proofs.Planes.{exceeds-from}
 use Rattle.tables.proofs.table.exceeds.Statement.{statement}

@@ -1,10 +1,10 @@
 -- `pick_where` meets its contract: the two planes are picked and joined. Assumes nothing.
-use Prim.Native.Nat.{ℕ, _+_, _*_, _/_, _%_}
+use Prim.Native.Nat.{ℕ, _+_, _*_}
 use mathlib.Core.Path.{_≡_, ap, ap₂, _∙_}
 use native.Mathlib.Omega.{arith}
 use borrow.Author.Needs.{needs}
-use Rattle.tables.specs.Cells.{digit, packed, over}
-use Rattle.tables.proofs.Planes.{pick, high-from, low-from, picked-joined, plane-fits}
+use Rattle.tables.specs.Cells.{packed}
+use Rattle.tables.proofs.Planes.{pickedHighs, pickedLows, high-from, low-from, picked-joined, plane-fits}
 use Rattle.tables.proofs.Laws.{picked-places}
 use Rattle.tables.proofs.table.pick_where.Statement.{statement}
 use Rattle.tables.proofs.table.pick_where.Tie as tie
@@ -34,39 +34,46 @@ abbrev Here : Type 0
 Here = tie.After-pick-bits2
 
 -- the two planes, and that the code has them
-abbrev highs : Here → ℕ → ℕ
-highs c i =
-    let a = c .before .before .before .before .before .before .before .args in
-    pick (over (digit (a .a .packed) i) (digit (a .b .packed) i)) (digit (a .x .packed) i / 2) (digit (a .y .packed) i / 2)
+abbrev high-cells : Here → ℕ → ℕ
+high-cells c =
+    let o = c .before .before .before in
+    let a = o .before .before .before .before .args in
+    pickedHighs (a .a .packed) (a .b .packed) (a .x .packed) (a .y .packed)
 
-abbrev lows : Here → ℕ → ℕ
-lows c i =
-    let a = c .before .before .before .before .before .before .before .args in
-    pick (over (digit (a .a .packed) i) (digit (a .b .packed) i)) (digit (a .x .packed) i % 2) (digit (a .y .packed) i % 2)
+abbrev low-cells : Here → ℕ → ℕ
+low-cells c =
+    let o = c .before .before .before in
+    let a = o .before .before .before .before .args in
+    pickedLows (a .a .packed) (a .b .packed) (a .x .packed) (a .y .packed)
 
-high : (c : Here) → c .before .before .before .pick-bits .result ≡ packed (highs c) 16
+high : (c : Here) → c .before .before .before .pick-bits .result ≡ packed (high-cells c) 16
 high c =
-    let a = c .before .before .before .before .before .before .before .args in
-    c .before .before .before .pick-bits .ensures
-    ∙ high-from (a .a .packed) (a .b .packed) (a .x .packed) (a .y .packed) _ (c .before .before .before .before .before .before .exceeds .ensures) _ _ (c .before .before .before .before .before .high-bits .ensures)
-    (c .before .before .before .before .high-bits2 .ensures)
+    let o = c .before .before .before in
+    let e = o .before .before .before in
+    let a = e .before .args in
+    o .pick-bits .ensures
+    ∙ high-from (a .a .packed) (a .b .packed) (a .x .packed) (a .y .packed) _ (e .exceeds .ensures) _ _
+    (o .before .before .high-bits .ensures) (o .before .high-bits2 .ensures)
 
-low : (c : Here) → c .pick-bits2 .result ≡ packed (lows c) 16
+low : (c : Here) → c .pick-bits2 .result ≡ packed (low-cells c) 16
 low c =
-    let a = c .before .before .before .before .before .before .before .args in
+    let o = c .before .before .before in
+    let e = o .before .before .before in
+    let a = e .before .args in
     c .pick-bits2 .ensures
-    ∙ low-from (a .a .packed) (a .b .packed) (a .x .packed) (a .y .packed) _ (c .before .before .before .before .before .before .exceeds .ensures) _ _ (c .before .before .low-bits .ensures)
-    (c .before .low-bits2 .ensures)
+    ∙ low-from (a .a .packed) (a .b .packed) (a .x .packed) (a .y .packed) _ (e .exceeds .ensures) _ _
+    (c .before .before .low-bits .ensures) (c .before .low-bits2 .ensures)
 
 mul-t8 : tie.Need-mul-t8
-mul-t8 c = omega (arith, plane-fits _ (highs c) (high c))
+mul-t8 c = omega (arith, plane-fits _ (high-cells c) (high c))
 
 add-t9 : tie.Need-add-t9
-add-t9 c = omega (arith, plane-fits _ (highs c) (high c), plane-fits _ (lows c) (low c))
+add-t9 c = omega (arith, plane-fits _ (high-cells c) (high c), plane-fits _ (low-cells c) (low c))
 
 returns : tie.Need-returns
 returns c =
-    let a = c .before .before .before .before .before .before .before .args in
+    let o = c .before .before .before in
+    let a = o .before .before .before .before .args in
     ap (λ (n : ℕ). record { packed = n })
     (ap₂ (λ (h l : ℕ). 2 * h + l) (high c) (low c) ∙ picked-joined (a .a .packed) (a .b .packed) (a .x .packed) (a .y .packed))
     ∙ picked-places (a .a) (a .b) (a .x) (a .y)

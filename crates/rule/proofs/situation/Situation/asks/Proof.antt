@@ -1,3 +1,4 @@
+-- `Situation::asks` meets its contract: each of the two tables is what the calls promise. Assumes nothing.
 use borrow.Author.Needs.{needs}
 use Rattle.rule.proofs.situation.Situation.asks.Statement.{statement}
 use Rattle.rule.proofs.situation.Situation.asks.Tie as tie

@@ -1,3 +1,4 @@
+-- `Situation::offers` meets its contract: each of the two tables is what the calls promise. Assumes nothing.
 use borrow.Author.Needs.{needs}
 use Rattle.rule.proofs.situation.Situation.offers.Statement.{statement}
 use Rattle.rule.proofs.situation.Situation.offers.Tie as tie

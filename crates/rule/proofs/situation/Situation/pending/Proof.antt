@@ -1,3 +1,4 @@
+-- `Situation::pending` meets its contract: the lower of the need and the table of the columns is what the calls promise. Assumes nothing.
 use borrow.Author.Needs.{needs}
 use Rattle.rule.proofs.situation.Situation.pending.Statement.{statement}
 use Rattle.rule.proofs.situation.Situation.pending.Tie as tie

@@ -1,3 +1,4 @@
+-- `Table::cell` meets its contract: the digit at the cell's place is the cell. Assumes nothing.
 use mathlib.Core.Path.{ap, _∙_}
 use borrow.Author.Needs.{needs}
 use Rattle.tables.specs.Cells.{digit}

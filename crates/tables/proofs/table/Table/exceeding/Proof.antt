@@ -1,4 +1,4 @@
--- `Table::exceeding` meets its contract. Assumes nothing.
+-- `Table::exceeding` meets its contract: where the first does not exceed the second, 0 is picked. Assumes nothing.
 use mathlib.Core.Path.{_∙_}
 use borrow.Author.Needs.{needs}
 use Rattle.tables.proofs.Laws.{picked-exceeding}

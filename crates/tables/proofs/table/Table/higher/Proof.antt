@@ -1,4 +1,4 @@
--- `Table::higher` meets its contract. Assumes nothing.
+-- `Table::higher` meets its contract: where the first exceeds the second it is the higher, elsewhere the second is. Assumes nothing.
 use mathlib.Core.Path.{_∙_}
 use borrow.Author.Needs.{needs}
 use Rattle.tables.proofs.Laws.{picked-higher}

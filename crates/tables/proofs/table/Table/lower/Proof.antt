@@ -1,4 +1,4 @@
--- `Table::lower` meets its contract. Assumes nothing.
+-- `Table::lower` meets its contract: where the first exceeds the second the second is the lower, elsewhere the first is. Assumes nothing.
 use mathlib.Core.Path.{_∙_}
 use borrow.Author.Needs.{needs}
 use Rattle.tables.proofs.Laws.{picked-lower}
