@@ -118,7 +118,7 @@ module _ (t : List ℕ) (M : Language) (some : Some M) (g : Line → Reading)
         by-steps (FenceThen M) (drop at t) at (followAt (bytes "fence ") t at) (fenceLineFrom t) g
         (judges-follow formless t (FenceName M) named (bytes "fence ") (λ _ name. onLine (fenceLineFrom t name) g) (λ _. judges-fence-name) at la)
 
-pub judges-lines : (n : ℕ) (t : List ℕ) (p : Progress) → Judges formless (Lines n) t (linesFrom n t p)
+judges-lines : (n : ℕ) (t : List ℕ) (p : Progress) → Judges formless (Lines n) t (linesFrom n t p)
 unfolding linesFrom
 judges-lines zero t p at la = judges-end t p at la
 judges-lines (suc n) t p at la = by (ℕ-discrete (getD t at 0) 102) (λ q. judges-lines n t q)
@@ -136,7 +136,8 @@ judges-lines (suc n) t p at la = by (ℕ-discrete (getD t at 0) 102) (λ q. judg
     tested : (q : Bool) → eqb (getD t at 0) 102 ≡ q → Judged formless (Lines (suc n)) s at (cond q (onLine (fenceAt t at) next) (ended t p at))
         → Judged formless (Lines (suc n)) s at (linesFrom (suc n) t p at)
     tested q e =
-        subst (λ (r : Reading). Judged formless (Lines (suc n)) s at r) (ap (λ (b : Bool). cond b (onLine (fenceAt t at) next) (ended t p at)) (sym e))
+        subst (λ (r : Reading). Judged formless (Lines (suc n)) s at r)
+        (ap (λ (b : Bool). cond b (onLine (fenceAt t at) next) (ended t p at)) (sym e))
 
     not-end : getD t at 0 ≡ 102 → getD s 0 0 ≡ 101 → ⊥
     not-end e z = let both : _≡_ {A = ℕ} 101 102 = sym z ∙ head-is ∙ e in omega arith
@@ -180,4 +181,5 @@ module _ (t : List ℕ) where
   judges-text =
       let named : Some NameForm = some-seq (Ended 10) PpoForm (some-name 10) some-ppo in
       by-steps TextForm t 0 (followAt (bytes "model ") t 0) (headFrom t) (afterHead t)
-      (judges-follow formless t NameForm named (bytes "model ") (λ _ name. onLine (headFrom t name) (afterHead t)) (λ _. judges-head-name) 0 (omega arith))
+      (judges-follow formless t NameForm named (bytes "model ") (λ _ name. onLine (headFrom t name) (afterHead t)) (λ _. judges-head-name)
+      0 (omega arith))

@@ -13,11 +13,11 @@ use Rattle.ground.specs.Bytes.{nameByte, sameBytes}
 use Rattle.models.specs.declared.model.Name.{Name}
 use Rattle.models.specs.Model.{Fence, FenceFormed}
 use Rattle.texts.specs.NamePart.{Each, NameBytes}
-use Rattle.models.specs.Told.{filled}
+use Rattle.models.specs.Told.{filled, heldName}
 use Rattle.models.specs.inner.Progress.{among}
 
 -- a name without the zeros behind it
-pub strip : (a b : List ℕ) (p q : ℕ) → NameBytes a → NameBytes b → a ++ replicate p 0 ≡ b ++ replicate q 0 → a ≡ b
+strip : (a b : List ℕ) (p q : ℕ) → NameBytes a → NameBytes b → a ++ replicate p 0 ≡ b ++ replicate q 0 → a ≡ b
 strip [] [] p q ha hb e = refl
 strip [] (y ∷ b) zero q ha hb e = differ (cc)
 strip [] (y ∷ b) (suc p) q ha hb e = let z : 0 ≡ y = cc in absurd (subst (λ (c : ℕ). T (nameByte c)) (sym z) (hb .0))
@@ -30,7 +30,7 @@ strip (x ∷ a) (y ∷ b) p q ha hb e =
 
 -- a name that stands among others, and one that does not
 abbrev pub heldNames : List Fence → List Name
-heldNames = map (λ (f : Fence). filled (f .name))
+heldNames = map heldName
 
 module _ (n : List ℕ) (hn : NameBytes n) (d : Fence) where
   -- the fence's name is the one that is looked for

@@ -12,20 +12,20 @@ use lib.Dec.{eqb}
 use lib.ListN.{length, take, getD, set, replicate, length-append, length-map}
 use lib.Seq.{take-suc, take-at, length-take-le, set-append-seam, append-snoc, getD-take, take-length}
 use Rattle.answers.specs.declared.Refusal.{Refusal}
-use Rattle.models.specs.declared.model.Name.{Name}
 use Rattle.models.specs.declared.model.Model.{Model}
 use Rattle.models.specs.declared.model.Reading.{Reading}
 use Rattle.models.specs.declared.reader.Progress.{Progress}
 use Rattle.models.specs.Model.{Fence, Description, FenceFormed, Formed}
 use Rattle.texts.specs.NamePart.{Each, NameFormed}
-use Rattle.models.specs.Told.{filled, padded, held, noFence, fenceOf, nameOf, nameStands, Repeats, EarliestRepeat, Distinct, accepting, refusing}
+use Rattle.models.specs.Told.{filled, padded, heldName, packedOf, held, accepting, refusing}
+use Rattle.models.specs.Told.{noFence, fenceOf, nameOf, nameStands, Repeats, EarliestRepeat, Distinct}
 use Rattle.models.specs.inner.Progress.{among, finished}
 use Rattle.texts.proofs.NamePart.{each-at}
 use Rattle.models.proofs.Names.{heldNames, among-found, among-none}
 use Rattle.models.proofs.Reread.{pushed}
 
 -- one more in place of what fills up
-pub padded-more : {A : Type 0} (d x : A) (l : List A) → length l < 16 → set (padded d l) (length l) x ≡ padded d (l ++ (x ∷ []))
+padded-more : {A : Type 0} (d x : A) (l : List A) → length l < 16 → set (padded d l) (length l) x ≡ padded d (l ++ (x ∷ []))
 padded-more d x l h =
     let k : ℕ = 16 - (length l + 1) in
     let e : 16 - length l ≡ suc k = omega arith in
@@ -38,12 +38,6 @@ padded-more d x l h =
 map-snoc : {A B : Type 0} (f : A → B) (l : List A) (x : A) → map f (l ++ (x ∷ [])) ≡ map f l ++ (f x ∷ [])
 map-snoc f [] x = refl
 map-snoc f (y ∷ l) x = ap (λ (m : List _). f y ∷ m) (map-snoc f l x)
-
-abbrev pub packedOf : Fence → ℕ
-packedOf f = f .table .packed
-
-abbrev pub heldName : Fence → Name
-heldName f = filled (f .name)
 
 module _ (d : Description) where
   -- the model with its first k fences
@@ -146,7 +140,7 @@ module _ (d : Description) where
     all-kept : Kept (length (d .fences)) (pushed d (length (d .fences)) .repeat)
     all-kept = kept (length (d .fences)) (omega arith)
 
-    pub all-held : pushed d (length (d .fences)) .model ≡ held d
+    all-held : pushed d (length (d .fences)) .model ≡ held d
     all-held =
         model-pushed (length (d .fences)) (omega arith)
         ∙ ap (λ (fs : List Fence). held (record { name = d .name; ppo = d .ppo; fences = fs })) (take-length (d .fences))

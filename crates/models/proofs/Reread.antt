@@ -75,7 +75,8 @@ module _ (t : List ℕ) (at : ℕ) (f : Fence) (tail : List ℕ) (h : FenceForme
   fence-read =
       ap (λ (s : Step). thenLine s (fenceLineFrom t))
       (followed (bytes "fence ") t (bytes "fence ") ((f .name ++ (32 ∷ [])) ++ (tablePart (f .table) ++ tail)) at is (own-word (bytes "fence ") tt))
-      ∙ ap (λ (s : Step). thenLine s (λ table. lineEnd t A table)) (name-found t (f .name) (tablePart (f .table) ++ tail) 32 A at-name (h .name) space)
+      ∙ ap (λ (s : Step). thenLine s (λ table. lineEnd t A table))
+      (name-found t (f .name) (tablePart (f .table) ++ tail) 32 A at-name (h .name) space)
       ∙ ap (λ (s : Step). thenLine s (λ next. LineRead.Read (record { name = A; table = B; next = next })))
       (followed tablePattern t (tablePart (f .table)) tail B at-table (part-follows (f .table)))
 
@@ -119,7 +120,8 @@ module _ (t : List ℕ) (n : List ℕ) (x : Table) (tail : List ℕ) (named-well
   head-read =
       ap (λ (s : Step). thenLine s (headFrom t))
       (followed (bytes "model ") t (bytes "model ") ((n ++ (10 ∷ [])) ++ (bytes "ppo " ++ (tablePart x ++ tail))) 0 is (own-word (bytes "model ") tt))
-      ∙ ap (λ (s : Step). thenLine s (λ past. ppoAt t 6 past)) (name-found t n (bytes "ppo " ++ (tablePart x ++ tail)) 10 6 at-head-name named-well feed)
+      ∙ ap (λ (s : Step). thenLine s (λ past. ppoAt t 6 past))
+      (name-found t n (bytes "ppo " ++ (tablePart x ++ tail)) 10 6 at-head-name named-well feed)
       ∙ ap (λ (s : Step). thenLine s (λ table. lineEnd t 6 table))
       (followed (bytes "ppo ") t (bytes "ppo ") (tablePart x ++ tail) N at-ppo (own-word (bytes "ppo ") tt))
       ∙ ap (λ (s : Step). thenLine s (λ next. LineRead.Read (record { name = 6; table = N + 4; next = next })))

@@ -19,7 +19,7 @@ use Rattle.models.specs.Reading.{tableIn}
 use Rattle.texts.proofs.Pattern.{length-follows, follow-at}
 
 -- a letter for each level, a level for each letter
-pub level-letter : (n : ℕ) → n < 4 → levelOf (letter n) ≡ n
+level-letter : (n : ℕ) → n < 4 → levelOf (letter n) ≡ n
 level-letter zero l = refl
 level-letter (suc zero) l = refl
 level-letter (suc (suc zero)) l = refl
@@ -98,9 +98,12 @@ table-in-text x rest clean = table-cong _ (cell x) at ∙ table-own x clean
 abbrev CellOf : Table → Row → Column → Type 0
 CellOf x r c = T (cellByte (letter (cell x r c)))
 
-row-follows : (x : Table) (r : Row) {P : Type 0} → P → CellOf x r Column.Ld × (CellOf x r Column.Cld × (CellOf x r Column.St × (CellOf x r Column.Cst × P)))
-row-follows x r p =
-    (letter-cell (cell x r Column.Ld), (letter-cell (cell x r Column.Cld), (letter-cell (cell x r Column.St), (letter-cell (cell x r Column.Cst), p))))
+module _ (x : Table) (r : Row) where
+  letter-at : (c : Column) → CellOf x r c
+  letter-at c = letter-cell (cell x r c)
+
+  row-follows : {P : Type 0} → P → CellOf x r Column.Ld × (CellOf x r Column.Cld × (CellOf x r Column.St × (CellOf x r Column.Cst × P)))
+  row-follows p = (letter-at Column.Ld, (letter-at Column.Cld, (letter-at Column.St, (letter-at Column.Cst, p))))
 
 pub part-follows : (x : Table) → Follows tablePattern (tablePart x)
 part-follows x =

@@ -23,13 +23,19 @@ padded x l = l ++ replicate (16 - length l) x
 abbrev pub filled : List ℕ → Name
 filled n = record { bytes = padded 0 n }
 
+abbrev pub heldName : Fence → Name
+heldName f = filled (f .name)
+
+abbrev pub packedOf : Fence → ℕ
+packedOf f = f .table .packed
+
 abbrev pub held : Description → Model
 held d = record {
   ppo = d .ppo;
   fences = length (d .fences);
-  tables = padded 0 (map (λ (f : Fence). f .table .packed) (d .fences));
+  tables = padded 0 (map packedOf (d .fences));
   name = filled (d .name);
-  names = padded (filled []) (map (λ (f : Fence). filled (f .name)) (d .fences));
+  names = padded (filled []) (map heldName (d .fences));
 }
 
 -- a model without fences, and one that holds nothing at all

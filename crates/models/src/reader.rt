@@ -1,14 +1,12 @@
 // The reader: from a text to a model.
 ghost use Prim.Native.Nat.{_+_, _≤_};
 ghost use mathlib.Core.Path.{_≡_};
-ghost use mathlib.Core.Bool.{cond};
-ghost use lib.Dec.{eqb};
 ghost use lib.ListN.{length, take, drop};
 ghost use Rattle.ground.specs.Bytes.{sameBytes};
 ghost use Rattle.texts.specs.NamePart.{nameRun};
 ghost use Rattle.models.specs.Told.{Told};
 ghost use Rattle.models.specs.inner.Lines.{levelOf};
-ghost use Rattle.models.specs.inner.Progress.{among, finished};
+ghost use Rattle.models.specs.inner.Progress.{among, repeatPlace, finished};
 ghost use Rattle.models.specs.Reading.{nameIn, tableIn, ended, linesFrom, reading};
 use crate::held;
 use crate::model::Model;
@@ -115,7 +113,7 @@ fn finish(p: Progress) -> Reading
 // The place of the first name that stood above already: one was found, or it is the place of this name, or there is none.
 fn repeat_place(found: usize, name: Name, names: [Name; 16], count: usize, at: usize) -> usize
     requires { ⌜ count ≤ 16 ⌝ }
-    ensures { λ r. ⌜ r ≡ cond (eqb found 0) (cond (among name (take count names)) at 0) found ⌝ }
+    ensures { λ r. ⌜ r ≡ repeatPlace found name (take count names) at ⌝ }
 {
     if found != 0 {
         return found;

@@ -18,10 +18,10 @@ module _ (s rest : List ℕ) (m j : ℕ) (lm : m ≤ j) (lj : j ≤ length s) wh
       let e : m + (j - m) ≡ j = omega arith in
       ap (λ (n : ℕ). take n s ++ rest) (sym e) ∙ ap (λ (l : List ℕ). l ++ rest) (take-add m (j - m) s) ∙ append-assoc (take m s) _ rest
 
-  pub take-cut : take m (take j s ++ rest) ≡ take m s
+  take-cut : take m (take j s ++ rest) ≡ take m s
   take-cut = ap (take m) cut ∙ take-at (take m s) _ m (length-take-le m s (omega arith))
 
-  pub drop-cut : drop m (take j s ++ rest) ≡ take (j - m) (drop m s) ++ rest
+  drop-cut : drop m (take j s ++ rest) ≡ take (j - m) (drop m s) ++ rest
   drop-cut = ap (drop m) cut ∙ drop-at (take m s) _ m (length-take-le m s (omega arith))
 
 pub length-begun : (s rest : List ℕ) (j : ℕ) → j ≤ length s → length (take j s ++ rest) ≡ j + length rest

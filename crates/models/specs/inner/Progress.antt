@@ -31,10 +31,15 @@ among n (m ∷ ms) = sameBytes (m .bytes) (n .bytes) || among n ms
 abbrev pub started : Name → Table → Progress
 started name ppo = record { model = bare name ppo; repeat = 0 }
 
--- one fence more; the place of the first name that stood above already is kept (0 while there is none: no fence name stands at 0)
-abbrev pub repeatOf : Progress → Name → ℕ → ℕ
-repeatOf p name at = cond (eqb (p .repeat) 0) (cond (among name (take (p .model .fences) (p .model .names))) at 0) (p .repeat)
+-- the place of the first name that stood above already: one was found, or it is the place of this name, or there is none (0: no fence name
+-- stands there)
+abbrev pub repeatPlace : ℕ → Name → List Name → ℕ → ℕ
+repeatPlace found name above at = cond (eqb found 0) (cond (among name above) at 0) found
 
+abbrev pub repeatOf : Progress → Name → ℕ → ℕ
+repeatOf p name at = repeatPlace (p .repeat) name (take (p .model .fences) (p .model .names)) at
+
+-- one fence more
 abbrev pub withFence : Progress → Name → ℕ → Table → Progress
 withFence p name at table = record {
   model = record {

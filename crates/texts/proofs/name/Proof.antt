@@ -33,7 +33,8 @@ returns-3 : tie.Need-returns-3
 returns-3 c =
     let some = c .before .before .before in
     let a = some .before .before .before .args in
-    sym (name-other (a .end) (now (a .text)) (a .at) _ (some .before .name-bytes .ensures) (some .if1 .left) (c .before .before .if2 .left) (c .if3 .taken))
+    let more = c .before .before .if2 .left in
+    sym (name-other (a .end) (now (a .text)) (a .at) _ (some .before .name-bytes .ensures) (some .if1 .left) more (c .if3 .taken))
 
 add-t7 : tie.Need-add-t7
 add-t7 c = search needs
@@ -42,7 +43,8 @@ returns-4 : tie.Need-returns-4
 returns-4 c =
     let some = c .before .before .before in
     let a = some .before .before .before .args in
-    sym (name-ends (a .end) (now (a .text)) (a .at) _ (some .before .name-bytes .ensures) (some .if1 .left) (c .before .before .if2 .left) (c .if3 .left))
+    let more = c .before .before .if2 .left in
+    sym (name-ends (a .end) (now (a .text)) (a .at) _ (some .before .name-bytes .ensures) (some .if1 .left) more (c .if3 .left))
 
 pub name-spec : {M : Type 1} → statement M
 name-spec =

@@ -32,8 +32,9 @@ end-requires c κs = search needs
 
 returns : tie.Need-returns Inv-loop μ-loop
 returns c =
-    let l = c .before .before .before .before .loop in
-    let t = now (c .before .before .before .before .before .before .before .args .text) in
+    let loop = c .before .before .before .before in
+    let l = loop .loop in
+    let t = now (loop .before .before .before .args .text) in
     let other : getD t (l .here) 0 ≡ 102 → ⊥ = λ e. c .before .if1 .taken (c .before .before .byte-at .ensures ∙ e) in
     c .end .ensures ∙ sym (l .inv .1 ∙ lines-end t (record { model = l .model; repeat = l .repeat }) (l .here) (l .left) other)
 
@@ -65,16 +66,18 @@ sub-name-in : tie.Need-sub-name-in Inv-loop μ-loop
 sub-name-in c =
     let line = c .before .before in
     let fence = line .before .before in
-    let l = fence .before .before .before .before .loop in
-    let t = now (fence .before .before .before .before .before .before .before .args .text) in
+    let loop = fence .before .before .before .before in
+    let l = loop .loop in
+    let t = now (loop .before .before .before .args .text) in
     fence-name t (line .line .given .0 .0) (l .here) (sym (fence .fence-line .ensures) ∙ line .line .given .1) .above
 
 name-in-requires : tie.Need-name-in-requires Inv-loop μ-loop
 name-in-requires c κs =
     let line = c .before .before in
     let fence = line .before .before in
-    let l = fence .before .before .before .before .loop in
-    let t = now (fence .before .before .before .before .before .before .before .args .text) in
+    let loop = fence .before .before .before .before in
+    let l = loop .loop in
+    let t = now (loop .before .before .before .args .text) in
     let ends = fence-name t (line .line .given .0 .0) (l .here) (sym (fence .fence-line .ensures) ∙ line .line .given .1) in
     (ends .run, ends .within)
 
@@ -136,7 +139,8 @@ returns-3 : tie.Need-returns-3 Inv-loop μ-loop
 returns-3 c =
     let l = c .before .before .loop in
     let t = now (c .before .before .before .before .before .args .text) in
-    c .end2 .ensures ∙ sym (l .inv .1 ∙ lines-last t (record { model = l .model; repeat = l .repeat }) (l .here) (l .left) (c .before .loop-test .left))
+    let p : Progress = record { model = l .model; repeat = l .repeat } in
+    c .end2 .ensures ∙ sym (l .inv .1 ∙ lines-last t p (l .here) (l .left) (c .before .loop-test .left))
 
 pub lines-spec : {M : Type 1} → statement M
 lines-spec =

@@ -35,7 +35,8 @@ sub-name-in : tie.Need-sub-name-in
 sub-name-in c =
     let line = c .before .before in
     let head = line .before .before in
-    head-name (now (head .before .before .before .args .text)) (line .line .given .0 .0) (sym (head .head-line .ensures) ∙ line .line .given .1) .above
+    let t = now (head .before .before .before .args .text) in
+    head-name t (line .line .given .0 .0) (sym (head .head-line .ensures) ∙ line .line .given .1) .above
 
 name-in-requires : tie.Need-name-in-requires
 name-in-requires c κs =
