@@ -1,54 +1,24 @@
 -- A text of the form, as Form says it, is one that is put together from the parts that the reader follows. Assumes nothing.
 use Prim.Native.Nat.{ℕ, zero, suc, _+_, _≤_, suc-le-suc}
 use mathlib.Core.Path.{_≡_, refl, sym, ap, ap₂, _∙_, subst}
-use mathlib.Core.Bool.{Bool, true, false, not, _&&_, cond}
 use mathlib.Core.List.{List, [], _∷_, _++_, append-assoc}
 use mathlib.Core.Logic.{inl, inr}
 use native.Mathlib.Omega.{arith}
 use native.Mathlib.Nat.{le-of-suc-le-suc}
-use lib.Dec.{T, eqb, eqb→eq, eqb-refl}
 use lib.ListN.{length}
 use Rattle.ground.specs.Bytes.{bytes}
 use Rattle.tables.specs.Table.{Clean}
 use Rattle.tables.proofs.Laws.{table-clean}
-use Rattle.models.specs.Model.{Fence, Description, Each, FenceFormed}
+use Rattle.models.specs.Model.{Fence, Description, FenceFormed}
+use Rattle.texts.specs.NamePart.{Each, Ended}
 use Rattle.models.specs.Text.{tablePart, fenceText, fencesText, textOf}
 use Rattle.models.specs.Form.{Form}
-use Rattle.models.specs.Scan.{cellByte}
 use Rattle.models.specs.Reading.{tableIn}
-use Rattle.models.proofs.Language.{Seq, seq-join, seq-apart}
-use Rattle.models.proofs.Pattern.{Follows}
-use Rattle.models.proofs.NamePart.{Ended}
-use Rattle.models.proofs.Judgement.{TablePart, FenceThen, Lines, TextForm}
+use Rattle.texts.proofs.Language.{seq-join, seq-apart}
+use Rattle.texts.specs.Pattern.{Follows}
+use Rattle.texts.proofs.Pattern.{same-word, own-word}
+use Rattle.models.specs.inner.Parts.{TablePart, TableThen, FenceName, FenceThen, Lines, PpoForm, NameForm, TextForm}
 use Rattle.models.proofs.TableText.{part-follows, text-of-table}
-
--- a word: a pattern without `?`
-abbrev pub plain : List ℕ → Bool
-plain [] = true
-plain (p ∷ ps) = not (eqb p 63) && plain ps
-
-unmarked : (q r x y : Bool) → T (not q && r) → cond q x y ≡ y
-unmarked true r x y t = absurd t
-unmarked false r x y t = refl
-
-unmarked-rest : (q r : Bool) → T (not q && r) → T r
-unmarked-rest true r t = absurd t
-unmarked-rest false r t = t
-
-same-word : (ps a : List ℕ) → T (plain ps) → Follows ps a → a ≡ ps
-same-word [] [] w f = refl
-same-word [] (b ∷ a) w f = absurd f
-same-word (p ∷ ps) [] w f = absurd f
-same-word (p ∷ ps) (b ∷ a) w f =
-    ap₂ (λ (x : ℕ) (l : List ℕ). x ∷ l) (eqb→eq b p (subst T (unmarked (eqb p 63) (plain ps) (cellByte b) (eqb b p) w) (f .0)))
-    (same-word ps a (unmarked-rest (eqb p 63) (plain ps) w) (f .1))
-
-pub own-word : (ps : List ℕ) → T (plain ps) → Follows ps ps
-own-word [] w = tt
-own-word (p ∷ ps) w = (
-  subst T (sym (unmarked (eqb p 63) (plain ps) (cellByte p) (eqb p p) w)) (eqb-refl p),
-  own-word ps (unmarked-rest (eqb p 63) (plain ps) w),
-)
 
 abbrev Held : (List Fence → List ℕ) → ℕ → List ℕ → Type 0
 Held text n t = (fs : List Fence) × (length fs ≤ n) × Each FenceFormed fs × (t ≡ text fs)
@@ -73,19 +43,22 @@ clean-in : (a : List ℕ) → Clean (tableIn a)
 unfolding tableIn
 clean-in a = table-clean _
 
+-- two parts of a text, each known
+both : {t a b a′ b′ : List ℕ} → t ≡ a ++ b → a ≡ a′ → b ≡ b′ → t ≡ a′ ++ b′
+both e x y = e ∙ ap₂ (λ (u v : List ℕ). u ++ v) x y
+
 lines-more : (n : ℕ) (t : List ℕ) → ((s : List ℕ) → Lines n s → Held lineTexts n s) → FenceThen (Lines n) t → Held lineTexts (suc n) t
 lines-more n t rest x =
-    let p = seq-apart (Follows (bytes "fence ")) (Seq (Ended 32) (Seq TablePart (Lines n))) t x in
-    let q = seq-apart (Ended 32) (Seq TablePart (Lines n)) (p .1) (p .4) in
+    let p = seq-apart (Follows (bytes "fence ")) (FenceName (Lines n)) t x in
+    let q = seq-apart (Ended 32) (TableThen (Lines n)) (p .1) (p .4) in
     let r = seq-apart TablePart (Lines n) (q .1) (q .4) in
     let s = rest (r .1) (r .4) in
-    let f : Fence = record { name = q .3 .0; table = tableIn (r .0) } in (
+    let f : Fence = record { name = q .3 .0; table = tableIn (r .0) } in
+    let word = same-word (bytes "fence ") (p .0) tt (p .3) in (
       f ∷ s .0,
       suc-le-suc (s .1),
       (record { name = q .3 .1; table = clean-in (r .0) }, s .2),
-      p .2
-          ∙ ap₂ (λ (a b : List ℕ). a ++ b) (same-word (bytes "fence ") (p .0) tt (p .3)) (q .2 ∙ ap₂ (λ (a b : List ℕ). a ++ b) (q .3 .2) (r .2 ∙ ap₂ (λ (a b : List ℕ). a ++ b) (part-is (r .0) (r .3)) (s .3)))
-          ∙ front f (s .0),
+      both (p .2) word (both (q .2) (q .3 .2) (both (r .2) (part-is (r .0) (r .3)) (s .3))) ∙ front f (s .0),
     )
 
 lines-to : (n : ℕ) (t : List ℕ) → Lines n t → Held lineTexts n t
@@ -99,8 +72,8 @@ lines-back (suc n) [] l h = inr (own-word (bytes "end\n") tt)
 lines-back zero (f ∷ fs) l h = absurd (omega arith)
 lines-back (suc n) (f ∷ fs) l h =
     inl (subst (FenceThen (Lines n)) (front f fs)
-    (seq-join (Follows (bytes "fence ")) (Seq (Ended 32) (Seq TablePart (Lines n))) (bytes "fence ") _ (own-word (bytes "fence ") tt)
-    (seq-join (Ended 32) (Seq TablePart (Lines n)) (f .name ++ (32 ∷ [])) _ (f .name, h .0 .name, refl)
+    (seq-join (Follows (bytes "fence ")) (FenceName (Lines n)) (bytes "fence ") _ (own-word (bytes "fence ") tt)
+    (seq-join (Ended 32) (TableThen (Lines n)) (f .name ++ (32 ∷ [])) _ (f .name, h .0 .name, refl)
     (seq-join TablePart (Lines n) (tablePart (f .table)) (lineTexts fs) (part-follows (f .table)) (lines-back n fs (le-of-suc-le-suc l) (h .1))))))
 
 -- the two lines above
@@ -114,27 +87,24 @@ above d =
 
 pub text-to : (t : List ℕ) → TextForm t → Form t
 text-to t x =
-    let p = seq-apart (Follows (bytes "model ")) (Seq (Ended 10) (Seq (Follows (bytes "ppo ")) (Seq TablePart (Lines 16)))) t x in
-    let q = seq-apart (Ended 10) (Seq (Follows (bytes "ppo ")) (Seq TablePart (Lines 16))) (p .1) (p .4) in
-    let r = seq-apart (Follows (bytes "ppo ")) (Seq TablePart (Lines 16)) (q .1) (q .4) in
+    let p = seq-apart (Follows (bytes "model ")) NameForm t x in
+    let q = seq-apart (Ended 10) PpoForm (p .1) (p .4) in
+    let r = seq-apart (Follows (bytes "ppo ")) (TableThen (Lines 16)) (q .1) (q .4) in
     let u = seq-apart TablePart (Lines 16) (r .1) (r .4) in
     let s = lines-to 16 (u .1) (u .4) in
-    let d : Description = record { name = q .3 .0; ppo = tableIn (u .0); fences = s .0 } in (
+    let d : Description = record { name = q .3 .0; ppo = tableIn (u .0); fences = s .0 } in
+    let table = both (u .2) (part-is (u .0) (u .3)) (s .3) in
+    let ppo = both (r .2) (same-word (bytes "ppo ") (r .0) tt (r .3)) table in (
       d,
       record { name = q .3 .1; ppo = clean-in (u .0); few = s .1; each = s .2 },
-      p .2
-          ∙ ap₂ (λ (a b : List ℕ). a ++ b) (same-word (bytes "model ") (p .0) tt (p .3))
-          (q .2
-          ∙ ap₂ (λ (a b : List ℕ). a ++ b) (q .3 .2)
-          (r .2
-          ∙ ap₂ (λ (a b : List ℕ). a ++ b) (same-word (bytes "ppo ") (r .0) tt (r .3)) (u .2 ∙ ap₂ (λ (a b : List ℕ). a ++ b) (part-is (u .0) (u .3)) (s .3))))
-          ∙ above d,
+      both (p .2) (same-word (bytes "model ") (p .0) tt (p .3)) (both (q .2) (q .3 .2) ppo) ∙ above d,
     )
 
 pub text-back : (t : List ℕ) → Form t → TextForm t
 text-back t (d, h, e) =
+    let lines = lines-back 16 (d .fences) (h .few) (h .each) in
     subst TextForm (above d ∙ sym e)
-    (seq-join (Follows (bytes "model ")) (Seq (Ended 10) (Seq (Follows (bytes "ppo ")) (Seq TablePart (Lines 16)))) (bytes "model ") _ (own-word (bytes "model ") tt)
-    (seq-join (Ended 10) (Seq (Follows (bytes "ppo ")) (Seq TablePart (Lines 16))) (d .name ++ (10 ∷ [])) _ (d .name, h .name, refl)
-    (seq-join (Follows (bytes "ppo ")) (Seq TablePart (Lines 16)) (bytes "ppo ") _ (own-word (bytes "ppo ") tt)
-    (seq-join TablePart (Lines 16) (tablePart (d .ppo)) (lineTexts (d .fences)) (part-follows (d .ppo)) (lines-back 16 (d .fences) (h .few) (h .each))))))
+    (seq-join (Follows (bytes "model ")) NameForm (bytes "model ") _ (own-word (bytes "model ") tt)
+    (seq-join (Ended 10) PpoForm (d .name ++ (10 ∷ [])) _ (d .name, h .name, refl)
+    (seq-join (Follows (bytes "ppo ")) (TableThen (Lines 16)) (bytes "ppo ") _ (own-word (bytes "ppo ") tt)
+    (seq-join TablePart (Lines 16) (tablePart (d .ppo)) (lineTexts (d .fences)) (part-follows (d .ppo)) lines))))

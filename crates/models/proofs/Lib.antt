@@ -1,12 +1,10 @@
-pub mod Language
-pub mod Pattern
-pub mod NamePart
 pub mod Steps
 pub mod Taken
-pub mod Judgement
 pub mod TableText
+pub mod Judgement
 pub mod Grammar
 pub mod Reread
 pub mod Names
 pub mod Pushed
 pub mod Words
+pub mod Unique

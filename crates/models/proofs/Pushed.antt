@@ -12,17 +12,20 @@ use lib.Dec.{eqb}
 use lib.ListN.{length, take, getD, set, replicate, length-append, length-map}
 use lib.Seq.{take-suc, take-at, length-take-le, set-append-seam, append-snoc, getD-take, take-length}
 use Rattle.answers.specs.declared.Refusal.{Refusal}
-use Rattle.models.specs.declared.model.Name.{Name}
 use Rattle.models.specs.declared.model.Model.{Model}
+use Rattle.models.specs.declared.model.Reading.{Reading}
 use Rattle.models.specs.declared.reader.Progress.{Progress}
-use Rattle.models.specs.Model.{Fence, Description, Each, NameFormed, FenceFormed, Formed}
-use Rattle.models.specs.Reading.{filled, padded, held, noFence, fenceOf, nameOf, nameStands, Repeats, EarliestRepeat, Distinct, among, finished, accepting, refusing}
-use Rattle.models.proofs.NamePart.{each-at}
+use Rattle.models.specs.Model.{Fence, Description, FenceFormed, Formed}
+use Rattle.texts.specs.NamePart.{Each, NameFormed}
+use Rattle.models.specs.Told.{filled, padded, heldName, packedOf, held, accepting, refusing}
+use Rattle.models.specs.Told.{noFence, fenceOf, nameOf, nameStands, Repeats, EarliestRepeat, Distinct}
+use Rattle.models.specs.inner.Progress.{among, finished}
+use Rattle.texts.proofs.NamePart.{each-at}
 use Rattle.models.proofs.Names.{heldNames, among-found, among-none}
 use Rattle.models.proofs.Reread.{pushed}
 
 -- one more in place of what fills up
-pub padded-more : {A : Type 0} (d x : A) (l : List A) → length l < 16 → set (padded d l) (length l) x ≡ padded d (l ++ (x ∷ []))
+padded-more : {A : Type 0} (d x : A) (l : List A) → length l < 16 → set (padded d l) (length l) x ≡ padded d (l ++ (x ∷ []))
 padded-more d x l h =
     let k : ℕ = 16 - (length l + 1) in
     let e : 16 - length l ≡ suc k = omega arith in
@@ -35,12 +38,6 @@ padded-more d x l h =
 map-snoc : {A B : Type 0} (f : A → B) (l : List A) (x : A) → map f (l ++ (x ∷ [])) ≡ map f l ++ (f x ∷ [])
 map-snoc f [] x = refl
 map-snoc f (y ∷ l) x = ap (λ (m : List _). f y ∷ m) (map-snoc f l x)
-
-abbrev pub packedOf : Fence → ℕ
-packedOf f = f .table .packed
-
-abbrev pub heldName : Fence → Name
-heldName f = filled (f .name)
 
 module _ (d : Description) where
   -- the model with its first k fences
@@ -114,7 +111,8 @@ module _ (d : Description) where
 
         fresh : (q : Bool) → found ≡ q → r ≡ 0 → ((j : ℕ) → j < k → Repeats d j → ⊥) → Kept (suc k) (cond q (nameStands d k) 0)
         fresh true e z none =
-            let f = among-found (nameOf d k) (name-well k l .bytes) noFence (take k (d .fences)) (first-each k (d .fences) (h .each)) (sym found-is ∙ e) in
+            let formed = first-each k (d .fences) (h .each) in
+            let f = among-found (nameOf d k) (name-well k l .bytes) noFence (take k (d .fences)) formed (sym found-is ∙ e) in
             let li : f .0 < k = omega (arith, f .1, long) in
             inr (k, omega arith, record { within = l; repeats = (f .0, li, sym (there (f .0) li) ∙ f .2); earliest = none }, refl)
         fresh false e z none = inl (refl, no-repeat)
@@ -126,19 +124,23 @@ module _ (d : Description) where
                 here (no ne) = none j (omega arith) (i, li, same)
                 here (yes e') =
                     let l' : i < k = omega arith in
-                    among-none (nameOf d k) (name-well k l .bytes) noFence (take k (d .fences)) (sym found-is ∙ e) i (omega (arith, long))
-                    (there i l' ∙ same ∙ ap (nameOf d) e')
+                    among-none (nameOf d k) (name-well k l .bytes) noFence (take k (d .fences)) (sym found-is ∙ e)
+                    (i, omega (arith, long), there i l' ∙ same ∙ ap (nameOf d) e')
+
+        -- whether a place was kept already
+        tested : (q : Bool) → eqb r 0 ≡ q → Kept (suc k) (cond q (cond found (nameStands d k) 0) r)
+            → Kept (suc k) (cond (eqb r 0) (cond found (nameStands d k) 0) r)
+        tested q e = subst (λ (b : Bool). Kept (suc k) (cond b (cond found (nameStands d k) 0) r)) (sym e)
 
         by : Kept k r → Kept (suc k) (cond (eqb r 0) (cond found (nameStands d k) 0) r)
-        by (inl (z, none)) = subst (λ (q : Bool). Kept (suc k) (cond q (cond found (nameStands d k) 0) r)) (sym (eq-eqb r 0 z)) (fresh found refl z none)
-        by (inr (j, lj, e, is)) =
-            subst (λ (q : Bool). Kept (suc k) (cond q (cond found (nameStands d k) 0) r)) (sym (ne-eqb r 0 (λ z. omega arith))) (inr (j, omega arith, e, is))
+        by (inl (z, none)) = tested true (eq-eqb r 0 z) (fresh found refl z none)
+        by (inr (j, lj, e, is)) = tested false (ne-eqb r 0 (λ z. omega arith)) (inr (j, omega arith, e, is))
 
     -- after all of them
     all-kept : Kept (length (d .fences)) (pushed d (length (d .fences)) .repeat)
     all-kept = kept (length (d .fences)) (omega arith)
 
-    pub all-held : pushed d (length (d .fences)) .model ≡ held d
+    all-held : pushed d (length (d .fences)) .model ≡ held d
     all-held =
         model-pushed (length (d .fences)) (omega arith)
         ∙ ap (λ (fs : List Fence). held (record { name = d .name; ppo = d .ppo; fences = fs })) (take-length (d .fences))
@@ -155,13 +157,11 @@ module _ (d : Description) where
       p : Progress
       p = pushed d (length (d .fences))
 
+      ending : Bool → Reading
+      ending q = cond q (accepting (p .model)) (refusing (Refusal.FenceNameRepeats (p .repeat)))
+
       by : Kept h (length (d .fences)) (p .repeat) → Ends
-      by (inl (z, none)) =
-          inl (ap (λ (q : Bool). cond q (accepting (p .model)) (refusing (Refusal.FenceNameRepeats (p .repeat)))) (eq-eqb (p .repeat) 0 z) ∙ ap accepting (all-held h), none)
+      by (inl (z, none)) = inl (ap ending (eq-eqb (p .repeat) 0 z) ∙ ap accepting (all-held h), none)
       by (inr (k, lk, e, is)) =
-          inr (
-            k,
-            e,
-            ap (λ (q : Bool). cond q (accepting (p .model)) (refusing (Refusal.FenceNameRepeats (p .repeat)))) (ne-eqb (p .repeat) 0 (λ z. omega arith))
-                ∙ ap (λ (n : ℕ). refusing (Refusal.FenceNameRepeats n)) is,
-          )
+          let place = ap (λ (n : ℕ). refusing (Refusal.FenceNameRepeats n)) is in
+          inr (k, e, ap ending (ne-eqb (p .repeat) 0 (λ z. omega arith)) ∙ place)

@@ -1,44 +1,35 @@
 -- Reading the text of a model, line by line: the reader goes through the model's own fences. Assumes nothing.
 use Prim.Native.Nat.{ℕ, zero, suc, _+_, _-_, _≤_, _<_}
 use mathlib.Core.Path.{_≡_, refl, sym, ap, ap₂, _∙_}
-use mathlib.Core.Bool.{Bool, true, false, cond}
+use mathlib.Core.Bool.{Bool, cond}
 use mathlib.Core.List.{List, [], _∷_, _++_, append-assoc, append-nil}
 use native.Mathlib.Omega.{arith}
-use native.Mathlib.Nat.{le-of-suc-le-suc, add-zero}
+use native.Mathlib.Nat.{add-zero}
 use borrow.Author.Tests.{eq-eqb}
 use lib.Dec.{T, eqb}
 use lib.ListN.{length, take, drop, getD, length-append, length-drop, take-append-drop}
 use lib.Seq.{drop-drop, drop-at, take-at, drop-cons, getD-drop, take-suc, drop-length}
 use Rattle.ground.specs.Bytes.{nameByte, bytes}
-use Rattle.answers.specs.declared.Refusal.{Refusal}
 use Rattle.tables.specs.declared.table.Table.{Table}
 use Rattle.tables.specs.Table.{Clean}
-use Rattle.models.specs.declared.scan.Step.{Step}
+use Rattle.texts.specs.declared.Step.{Step}
+use Rattle.texts.specs.Language.{onStep}
+use Rattle.texts.specs.NamePart.{NameFormed}
+use Rattle.texts.proofs.Pattern.{followed, own-word}
+use Rattle.texts.proofs.NamePart.{each-at, run-whole, name-found}
 use Rattle.models.specs.declared.scan.LineRead.{LineRead}
 use Rattle.models.specs.declared.model.Name.{Name}
 use Rattle.models.specs.declared.reader.Progress.{Progress}
-use Rattle.models.specs.Model.{Fence, Description, NameFormed, FenceFormed, Formed}
+use Rattle.models.specs.Model.{Fence, Description, FenceFormed, Formed}
 use Rattle.models.specs.Text.{tablePart, fenceText, fencesText, headText, textOf}
-use Rattle.models.specs.Scan.{nameRun, shift, follow, nameStep, followAt, nameAt, tablePattern}
-use Rattle.models.specs.Reading.{refusing, filled, nameIn, tableIn, fenceOf, nameOf, lineStands, nameStands, started, withFence, finished, onStep, onLine, after, lineEnd, ppoAt, headAt, fenceAt, fenceFrom, ended, linesFrom, reading}
-use Rattle.models.proofs.Pattern.{Follows, follow-whole, chosen}
-use Rattle.models.proofs.NamePart.{NameBytes, each-at, name-whole}
-use Rattle.models.proofs.Steps.{lines-end, lines-fence, afterHead, reading-within}
+use Rattle.models.specs.Told.{filled, fenceOf, nameOf, lineStands, nameStands}
+use Rattle.models.specs.inner.Lines.{tablePattern, thenLine, lineEnd, ppoAt, headFrom, fenceLineFrom}
+use Rattle.models.specs.inner.Progress.{formless, onLine, started, withFence, finished}
+use Rattle.models.specs.Reading.{headAt, fenceAt, nameIn, tableIn, fenceFrom, ended, linesFrom, afterHead, reading}
+use Rattle.models.proofs.Steps.{lines-end, lines-fence, reading-within}
 use Rattle.models.proofs.TableText.{part-follows, table-in-text}
-use Rattle.models.proofs.Grammar.{own-word, lineTexts, front, above}
-
--- a name is counted up to the byte after it
-run-whole : (limit : ℕ) (n rest : List ℕ) (e : ℕ) → NameBytes n → length n ≤ limit → (T (nameByte e) → ⊥) → nameRun limit (n ++ (e ∷ rest)) ≡ length n
-unfolding nameRun
-run-whole zero [] rest e h l not-name = refl
-run-whole zero (b ∷ n) rest e h l not-name = absurd (omega arith)
-run-whole (suc limit) [] rest e h l not-name = by (nameByte e) not-name
-  where
-    by : (q : Bool) → (T q → ⊥) → cond q (suc (nameRun limit rest)) 0 ≡ 0
-    by true h = absurd (h tt)
-    by false h = refl
-run-whole (suc limit) (b ∷ n) rest e h l not-name =
-    chosen (nameByte b) _ _ (h .0) ∙ ap suc (run-whole limit n rest e (h .1) (le-of-suc-le-suc l) not-name)
+use Rattle.models.proofs.Judgement.{feed, space}
+use Rattle.models.proofs.Grammar.{lineTexts, front, above}
 
 -- the name in front of the byte after it
 name-in-text : (n rest : List ℕ) (e : ℕ) → NameFormed n → (T (nameByte e) → ⊥) → nameIn (n ++ (e ∷ rest)) ≡ filled n
@@ -50,22 +41,9 @@ name-in-text n rest e f not-name =
 past : (t a b : List ℕ) (at n : ℕ) → drop at t ≡ a ++ b → length a ≡ n → drop (at + n) t ≡ b
 past t a b at n is long = sym (drop-drop n at t) ∙ ap (drop n) is ∙ drop-at a b n long
 
-followed : (ps t a b : List ℕ) (at : ℕ) → drop at t ≡ a ++ b → Follows ps a → followAt ps t at ≡ Step.Next (at + length ps)
-followed ps t a b at is f = ap (λ (s : List ℕ). shift at (follow ps s)) is ∙ ap (shift at) (follow-whole ps a b f)
-
-feed : T (nameByte 10) → ⊥
-feed t = t
-
-space : T (nameByte 32) → ⊥
-space t = t
-
-named : (t n rest : List ℕ) (e at : ℕ) → drop at t ≡ (n ++ (e ∷ [])) ++ rest → NameFormed n → (T (nameByte e) → ⊥)
-    → nameAt e t at ≡ Step.Next (at + (length n + 1))
-named t n rest e at is f not-name =
-    ap (λ (s : List ℕ). shift at (nameStep e s)) (is ∙ append-assoc n (e ∷ []) rest) ∙ ap (shift at) (name-whole e not-name n rest f)
-
 -- the name and the table that are read at their places
-name-there : (t n rest : List ℕ) (e at : ℕ) → drop at t ≡ (n ++ (e ∷ [])) ++ rest → NameFormed n → (T (nameByte e) → ⊥) → nameIn (drop at t) ≡ filled n
+name-there : (t n rest : List ℕ) (e at : ℕ) → drop at t ≡ (n ++ (e ∷ [])) ++ rest → NameFormed n → (T (nameByte e) → ⊥)
+    → nameIn (drop at t) ≡ filled n
 name-there t n rest e at is f not-name = ap nameIn (is ∙ append-assoc n (e ∷ []) rest) ∙ name-in-text n rest e f not-name
 
 table-there : (t tail : List ℕ) (x : Table) (at : ℕ) → drop at t ≡ tablePart x ++ tail → Clean x → tableIn (drop at t) ≡ x
@@ -95,10 +73,11 @@ module _ (t : List ℕ) (at : ℕ) (f : Fence) (tail : List ℕ) (h : FenceForme
   fence-read : fenceAt t at ≡ LineRead.Read (record { name = A; table = B; next = C })
   unfolding fenceAt
   fence-read =
-      ap (λ (s : Step). after s (λ name. after (nameAt 32 t name) (λ table. lineEnd t name table)))
+      ap (λ (s : Step). thenLine s (fenceLineFrom t))
       (followed (bytes "fence ") t (bytes "fence ") ((f .name ++ (32 ∷ [])) ++ (tablePart (f .table) ++ tail)) at is (own-word (bytes "fence ") tt))
-      ∙ ap (λ (s : Step). after s (λ table. lineEnd t A table)) (named t (f .name) (tablePart (f .table) ++ tail) 32 A at-name (h .name) space)
-      ∙ ap (λ (s : Step). after s (λ next. LineRead.Read (record { name = A; table = B; next = next })))
+      ∙ ap (λ (s : Step). thenLine s (λ table. lineEnd t A table))
+      (name-found t (f .name) (tablePart (f .table) ++ tail) 32 A at-name (h .name) space)
+      ∙ ap (λ (s : Step). thenLine s (λ next. LineRead.Read (record { name = A; table = B; next = next })))
       (followed tablePattern t (tablePart (f .table)) tail B at-table (part-follows (f .table)))
 
   fence-line : (n : ℕ) (p : Progress) → linesFrom (suc n) t p at ≡ linesFrom n t (withFence p (filled (f .name)) A (f .table)) C
@@ -117,9 +96,9 @@ end-line : (t : List ℕ) (p : Progress) (at : ℕ) → at ≤ length t → drop
 unfolding ended
 end-line t p at l is =
     let long : at + 4 ≡ length t = omega (arith, length-drop at t, ap length is) in
-    ap (λ (s : Step). onStep s (λ past. cond (eqb past (length t)) (finished p) (refusing (Refusal.NotOfTheForm past))))
+    ap (λ (s : Step). onStep formless s (λ past. cond (eqb past (length t)) (finished p) (formless past)))
     (followed (bytes "end\n") t (bytes "end\n") [] at is (own-word (bytes "end\n") tt))
-    ∙ ap (λ (q : Bool). cond q (finished p) (refusing (Refusal.NotOfTheForm (at + 4)))) (eq-eqb _ _ long)
+    ∙ ap (λ (q : Bool). cond q (finished p) (formless (at + 4))) (eq-eqb _ _ long)
 
 -- the two lines above the fences
 module _ (t : List ℕ) (n : List ℕ) (x : Table) (tail : List ℕ) (named-well : NameFormed n) (clean : Clean x)
@@ -139,11 +118,13 @@ module _ (t : List ℕ) (n : List ℕ) (x : Table) (tail : List ℕ) (named-well
   head-read : headAt t ≡ LineRead.Read (record { name = 6; table = N + 4; next = N + 4 + 20 })
   unfolding headAt
   head-read =
-      ap (λ (s : Step). after s (λ name. after (nameAt 10 t name) (λ past. ppoAt t name past)))
+      ap (λ (s : Step). thenLine s (headFrom t))
       (followed (bytes "model ") t (bytes "model ") ((n ++ (10 ∷ [])) ++ (bytes "ppo " ++ (tablePart x ++ tail))) 0 is (own-word (bytes "model ") tt))
-      ∙ ap (λ (s : Step). after s (λ past. ppoAt t 6 past)) (named t n (bytes "ppo " ++ (tablePart x ++ tail)) 10 6 at-head-name named-well feed)
-      ∙ ap (λ (s : Step). after s (λ table. lineEnd t 6 table)) (followed (bytes "ppo ") t (bytes "ppo ") (tablePart x ++ tail) N at-ppo (own-word (bytes "ppo ") tt))
-      ∙ ap (λ (s : Step). after s (λ next. LineRead.Read (record { name = 6; table = N + 4; next = next })))
+      ∙ ap (λ (s : Step). thenLine s (λ past. ppoAt t 6 past))
+      (name-found t n (bytes "ppo " ++ (tablePart x ++ tail)) 10 6 at-head-name named-well feed)
+      ∙ ap (λ (s : Step). thenLine s (λ table. lineEnd t 6 table))
+      (followed (bytes "ppo ") t (bytes "ppo ") (tablePart x ++ tail) N at-ppo (own-word (bytes "ppo ") tt))
+      ∙ ap (λ (s : Step). thenLine s (λ next. LineRead.Read (record { name = 6; table = N + 4; next = next })))
       (followed tablePattern t (tablePart x) tail (N + 4) at-ppo-table (part-follows x))
 
   head-lines : onLine (headAt t) (afterHead t) ≡ linesFrom 16 t (started (filled n) x) (N + 4 + 20)
@@ -156,7 +137,8 @@ module _ (t : List ℕ) (n : List ℕ) (x : Table) (tail : List ℕ) (named-well
 -- the fences' lines, part by part
 pub fences-split : (xs ys : List Fence) → fencesText (xs ++ ys) ≡ fencesText xs ++ fencesText ys
 fences-split [] ys = refl
-fences-split (f ∷ xs) ys = ap (λ (l : List ℕ). fenceText f ++ l) (fences-split xs ys) ∙ sym (append-assoc (fenceText f) (fencesText xs) (fencesText ys))
+fences-split (f ∷ xs) ys =
+    ap (λ (l : List ℕ). fenceText f ++ l) (fences-split xs ys) ∙ sym (append-assoc (fenceText f) (fencesText xs) (fencesText ys))
 
 pub fence-long : (f : Fence) → length (fenceText f) ≡ 6 + (length (f .name) + 1) + 20
 fence-long f = omega (arith, length-append (f .name) (bytes " " ++ tablePart (f .table)))
@@ -180,17 +162,20 @@ module _ (d : Description) where
   above-long k = length-append (headText d) (fencesText (take k (d .fences)))
 
   lines-left : (k : ℕ) → drop (lineStands d k) (textOf d) ≡ lineTexts (drop k (d .fences))
-  lines-left k = ap (drop (lineStands d k)) (text-split k) ∙ drop-at (headText d ++ fencesText (take k (d .fences))) _ (lineStands d k) (above-long k)
+  lines-left k =
+      ap (drop (lineStands d k)) (text-split k) ∙ drop-at (headText d ++ fencesText (take k (d .fences))) _ (lineStands d k) (above-long k)
 
   within : (k : ℕ) → lineStands d k ≤ length (textOf d)
   within k =
-      omega (arith, above-long k, ap length (text-split k), length-append (headText d ++ fencesText (take k (d .fences))) (lineTexts (drop k (d .fences))))
+      let whole = length-append (headText d ++ fencesText (take k (d .fences))) (lineTexts (drop k (d .fences))) in
+      omega (arith, above-long k, ap length (text-split k), whole)
 
   stands-next : (k : ℕ) → k < length (d .fences) → lineStands d k + 6 + (length (nameOf d k) + 1) + 20 ≡ lineStands d (suc k)
   stands-next k l =
       let more : fencesText (take (suc k) (d .fences)) ≡ fencesText (take k (d .fences)) ++ (fenceText (fenceOf d k) ++ []) =
       ap fencesText (take-suc (d .fences) k _ l) ∙ fences-split (take k (d .fences)) (fenceOf d k ∷ []) in
-      omega (arith, ap length more, length-append (fencesText (take k (d .fences))) (fenceText (fenceOf d k) ++ []), ap length (append-nil (fenceText (fenceOf d k))), fence-long (fenceOf d k))
+      let sum = length-append (fencesText (take k (d .fences))) (fenceText (fenceOf d k) ++ []) in
+      omega (arith, ap length more, sum, ap length (append-nil (fenceText (fenceOf d k))), fence-long (fenceOf d k))
 
   module _ (h : Formed d) where
     last-read : (k : ℕ) → k ≡ length (d .fences) → (p : Progress) (left : ℕ) → linesFrom left (textOf d) p (lineStands d k) ≡ finished p
@@ -211,7 +196,8 @@ module _ (d : Description) where
         fence-line (textOf d) (lineStands d k) f (lineTexts tail) (each-at FenceFormed (d .fences) _ (h .each) k l) is left p
         ∙ ap (λ (at : ℕ). linesFrom left (textOf d) (withFence p (filled (nameOf d k)) (nameStands d k) (f .table)) at) (stands-next k l)
 
-    lines-read : (more k : ℕ) → k + more ≡ length (d .fences) → linesFrom (16 - k) (textOf d) (pushed k) (lineStands d k) ≡ finished (pushed (length (d .fences)))
+    lines-read : (more k : ℕ) → k + more ≡ length (d .fences)
+        → linesFrom (16 - k) (textOf d) (pushed k) (lineStands d k) ≡ finished (pushed (length (d .fences)))
     unfolding pushed
     lines-read zero k e =
         let all : k ≡ length (d .fences) = omega arith in

@@ -5,7 +5,6 @@ use mathlib.Core.Bool.{Bool, true, false, _||_, cond}
 use mathlib.Core.List.{List, [], _∷_, _++_}
 use mathlib.Core.Logic.{_⊎_, inl, inr}
 use native.Mathlib.Omega.{arith}
-use native.Mathlib.Nat.{le-of-suc-le-suc}
 use lib.Dec.{T, eqb, eqb→eq, lit<}
 use lib.ListN.{length, getD}
 use Rattle.tables.specs.declared.table.Table.{Table}
@@ -14,12 +13,13 @@ use Rattle.tables.specs.declared.table.Column.{Column}
 use Rattle.tables.specs.Table.{rowNumber, columnNumber, cell, Clean}
 use Rattle.tables.proofs.Laws.{row-below, column-below, cell-below, cell-made, table-cong, table-own}
 use Rattle.models.specs.Text.{letter, tablePart}
-use Rattle.models.specs.Scan.{cellByte, fits, tablePattern, levelOf}
+use Rattle.texts.specs.Pattern.{cellByte, fits, Follows}
+use Rattle.models.specs.inner.Lines.{tablePattern, levelOf}
 use Rattle.models.specs.Reading.{tableIn}
-use Rattle.models.proofs.Pattern.{Follows, length-follows}
+use Rattle.texts.proofs.Pattern.{length-follows, follow-at}
 
 -- a letter for each level, a level for each letter
-pub level-letter : (n : ℕ) → n < 4 → levelOf (letter n) ≡ n
+level-letter : (n : ℕ) → n < 4 → levelOf (letter n) ≡ n
 level-letter zero l = refl
 level-letter (suc zero) l = refl
 level-letter (suc (suc zero)) l = refl
@@ -94,10 +94,20 @@ table-in-text x rest clean = table-cong _ (cell x) at ∙ table-own x clean
     at Row.St Column.St = level-letter _ (cell-below x Row.St Column.St)
     at Row.St Column.Cst = level-letter _ (cell-below x Row.St Column.Cst)
 
--- a table's text follows the pattern
+-- a table's text follows the pattern: four cells to a row, and a byte after each row
+abbrev CellOf : Table → Row → Column → Type 0
+CellOf x r c = T (cellByte (letter (cell x r c)))
+
+module _ (x : Table) (r : Row) where
+  letter-at : (c : Column) → CellOf x r c
+  letter-at c = letter-cell (cell x r c)
+
+  row-follows : {P : Type 0} → P → CellOf x r Column.Ld × (CellOf x r Column.Cld × (CellOf x r Column.St × (CellOf x r Column.Cst × P)))
+  row-follows p = (letter-at Column.Ld, (letter-at Column.Cld, (letter-at Column.St, (letter-at Column.Cst, p))))
+
 pub part-follows : (x : Table) → Follows tablePattern (tablePart x)
 part-follows x =
-    (letter-cell (cell x Row.Cld Column.Ld), (letter-cell (cell x Row.Cld Column.Cld), (letter-cell (cell x Row.Cld Column.St), (letter-cell (cell x Row.Cld Column.Cst), (tt, (letter-cell (cell x Row.Cst Column.Ld), (letter-cell (cell x Row.Cst Column.Cld), (letter-cell (cell x Row.Cst Column.St), (letter-cell (cell x Row.Cst Column.Cst), (tt, (letter-cell (cell x Row.Ld Column.Ld), (letter-cell (cell x Row.Ld Column.Cld), (letter-cell (cell x Row.Ld Column.St), (letter-cell (cell x Row.Ld Column.Cst), (tt, (letter-cell (cell x Row.St Column.Ld), (letter-cell (cell x Row.St Column.Cld), (letter-cell (cell x Row.St Column.St), (letter-cell (cell x Row.St Column.Cst), (tt, tt))))))))))))))))))))
+    row-follows x Row.Cld (tt, row-follows x Row.Cst (tt, row-follows x Row.Ld (tt, row-follows x Row.St (tt, tt))))
 
 -- a list of n bytes, byte by byte
 upTo : ℕ → (ℕ → ℕ) → List ℕ
@@ -110,12 +120,6 @@ listed zero [] e = refl
 listed zero (b ∷ a) e = absurd (omega arith)
 listed (suc n) [] e = absurd (omega arith)
 listed (suc n) (b ∷ a) e = ap (λ (l : List ℕ). b ∷ l) (listed n a (omega arith))
-
-follow-at : (ps a : List ℕ) → Follows ps a → (i : ℕ) → i < length ps → T (fits (getD ps i 0) (getD a i 0))
-follow-at [] a f i l = absurd (omega arith)
-follow-at (p ∷ ps) [] f i l = absurd f
-follow-at (p ∷ ps) (b ∷ a) f zero l = f .0
-follow-at (p ∷ ps) (b ∷ a) f (suc i) l = follow-at ps a (f .1) i (le-of-suc-le-suc l)
 
 cell-pattern : (r : Row) (c : Column) → getD tablePattern (5 * rowNumber r + columnNumber c) 0 ≡ 63
 cell-pattern Row.Cld Column.Ld = refl
@@ -147,7 +151,8 @@ module _ (a : List ℕ) (f : Follows tablePattern a) where
       let narrow = column-below c in
       let k : ℕ = 5 * rowNumber r + columnNumber c in
       let is : T (cellByte (getD a k 0)) = subst (λ (p : ℕ). T (fits p (getD a k 0))) (cell-pattern r c) (byte-fits k (omega arith)) in
-      ap letter (cell-made (λ (q : Row) (d : Column). levelOf (getD a (5 * rowNumber q + columnNumber d) 0)) r c (level-below (getD a k 0))) ∙ letter-level (getD a k 0) is
+      ap letter (cell-made (λ (q : Row) (d : Column). levelOf (getD a (5 * rowNumber q + columnNumber d) 0)) r c (level-below (getD a k 0)))
+      ∙ letter-level (getD a k 0) is
 
   pub text-of-table : tablePart (tableIn a) ≡ a
   unfolding upTo
@@ -158,4 +163,11 @@ module _ (a : List ℕ) (f : Follows tablePattern a) where
 
       bytes-are : tablePart (tableIn a) ≡ upTo 20 (λ i. getD a i 0)
       bytes-are i =
-          cell-read Row.Cld Column.Ld i ∷ cell-read Row.Cld Column.Cld i ∷ cell-read Row.Cld Column.St i ∷ cell-read Row.Cld Column.Cst i ∷ fixed 4 32 (byte-fits 4 (omega arith)) i ∷ cell-read Row.Cst Column.Ld i ∷ cell-read Row.Cst Column.Cld i ∷ cell-read Row.Cst Column.St i ∷ cell-read Row.Cst Column.Cst i ∷ fixed 9 32 (byte-fits 9 (omega arith)) i ∷ cell-read Row.Ld Column.Ld i ∷ cell-read Row.Ld Column.Cld i ∷ cell-read Row.Ld Column.St i ∷ cell-read Row.Ld Column.Cst i ∷ fixed 14 32 (byte-fits 14 (omega arith)) i ∷ cell-read Row.St Column.Ld i ∷ cell-read Row.St Column.Cld i ∷ cell-read Row.St Column.St i ∷ cell-read Row.St Column.Cst i ∷ fixed 19 10 (byte-fits 19 (omega arith)) i ∷ []
+          cell-read Row.Cld Column.Ld i ∷ cell-read Row.Cld Column.Cld i ∷ cell-read Row.Cld Column.St i ∷ cell-read Row.Cld Column.Cst i
+          ∷ fixed 4 32 (byte-fits 4 (omega arith)) i
+          ∷ cell-read Row.Cst Column.Ld i ∷ cell-read Row.Cst Column.Cld i ∷ cell-read Row.Cst Column.St i ∷ cell-read Row.Cst Column.Cst i
+          ∷ fixed 9 32 (byte-fits 9 (omega arith)) i
+          ∷ cell-read Row.Ld Column.Ld i ∷ cell-read Row.Ld Column.Cld i ∷ cell-read Row.Ld Column.St i ∷ cell-read Row.Ld Column.Cst i
+          ∷ fixed 14 32 (byte-fits 14 (omega arith)) i
+          ∷ cell-read Row.St Column.Ld i ∷ cell-read Row.St Column.Cld i ∷ cell-read Row.St Column.St i ∷ cell-read Row.St Column.Cst i
+          ∷ fixed 19 10 (byte-fits 19 (omega arith)) i ∷ []

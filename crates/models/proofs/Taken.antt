@@ -12,8 +12,10 @@ use Rattle.ground.specs.Bytes.{sameBytes}
 use Rattle.tables.specs.Table.{place, rowNumber, columnNumber, levelsTable}
 use Rattle.tables.proofs.Laws.{table-cong, row-below, column-below}
 use Rattle.models.specs.declared.model.Name.{Name}
-use Rattle.models.specs.Scan.{levelOf}
-use Rattle.models.specs.Reading.{filled, tableIn, among}
+use Rattle.models.specs.inner.Lines.{levelOf}
+use Rattle.models.specs.Told.{filled}
+use Rattle.models.specs.Reading.{tableIn}
+use Rattle.models.specs.inner.Progress.{among}
 
 -- the next byte of a name, in place of a zero
 pub name-more : (s : List ℕ) (i : ℕ) → i < length s → i < 16

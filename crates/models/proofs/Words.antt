@@ -4,32 +4,36 @@ use mathlib.Core.Path.{_≡_, sym, ap, _∙_, subst}
 use mathlib.Core.List.{List}
 use mathlib.Core.Logic.{_⊎_, inl, inr}
 use native.Mathlib.Omega.{arith}
-use native.Mathlib.Nat.{zero-add, le-antisymm}
+use native.Mathlib.Nat.{zero-add}
 use native.Mathlib.Decide.{decLe}
 use lib.ListN.{length}
 use Rattle.answers.specs.declared.Refusal.{Refusal}
+use Rattle.texts.specs.Language.{Longest, Judged}
+use Rattle.texts.proofs.Language.{longest-one, judged-iff}
 use Rattle.models.specs.declared.model.Reading.{Reading}
 use Rattle.models.specs.Model.{Description, Formed}
 use Rattle.models.specs.Text.{textOf}
-use Rattle.models.specs.Form.{Form, Longest}
-use Rattle.models.specs.Reading.{refusing, accepting, held, nameStands, finished, onLine, headAt, EarliestRepeat, Told, over, departs, repeated, accepted, reading}
-use Rattle.models.proofs.Language.{Judged, judged-iff}
-use Rattle.models.proofs.Judgement.{TextForm, judges-text}
+use Rattle.models.specs.Form.{Form}
+use Rattle.models.specs.Told.{held, accepting, refusing, nameStands, EarliestRepeat, Told, over, departs, repeated, accepted}
+use Rattle.models.specs.inner.Progress.{formless, onLine, finished}
+use Rattle.models.specs.inner.Parts.{TextForm}
+use Rattle.models.specs.Reading.{headAt, afterHead, reading}
+use Rattle.models.proofs.Judgement.{judges-text}
 use Rattle.models.proofs.Grammar.{text-to, text-back}
-use Rattle.models.proofs.Steps.{afterHead, reading-over, reading-within}
+use Rattle.models.proofs.Steps.{reading-over, reading-within}
 use Rattle.models.proofs.Reread.{pushed, text-read}
 use Rattle.models.proofs.Pushed.{Ends, ends}
 
 -- a text within the limit is of the form, or refused at its longest beginning
 abbrev Decided : List ℕ → Type 0
-Decided t = Form t ⊎ ((k : ℕ) × Longest Form t k × (Form t → ⊥) × (reading t ≡ refusing (Refusal.NotOfTheForm k)))
+Decided t = Form t ⊎ ((k : ℕ) × Longest Form t k × (Form t → ⊥) × (reading t ≡ formless k))
 
 judged : (t : List ℕ) → length t ≤ 1024 → Decided t
-judged t l = by (judged-iff TextForm Form text-to text-back t 0 (onLine (headAt t) (afterHead t)) (judges-text t))
+judged t l = by (judged-iff formless TextForm Form text-to text-back t 0 (onLine (headAt t) (afterHead t)) (judges-text t))
   where
-    by : Judged Form t 0 (onLine (headAt t) (afterHead t)) → Decided t
+    by : Judged formless Form t 0 (onLine (headAt t) (afterHead t)) → Decided t
     by (inl f) = inl f
-    by (inr (k, h, none, e)) = inr (k, h, none, reading-within t l ∙ e ∙ ap (λ (n : ℕ). refusing (Refusal.NotOfTheForm n)) (zero-add k))
+    by (inr (k, h, none, e)) = inr (k, h, none, reading-within t l ∙ e ∙ ap formless (zero-add k))
 
 -- a text of the form is accepted, or refused at the earliest repeated name
 module _ (d : Description) (h : Formed d) (t : List ℕ) (is : t ≡ textOf d) (l : length t ≤ 1024) where
@@ -54,10 +58,7 @@ told t = by (decLe (length t) 1024)
     by (yes l) = within l (judged t l)
     by (no g) = subst (Told t) (sym (reading-over t (omega arith))) (over (omega arith))
 
--- there is one longest beginning, and one earliest repeated name
-pub longest-one : (L : List ℕ → Type 0) (t : List ℕ) (j k : ℕ) → Longest L t j → Longest L t k → j ≡ k
-longest-one L t j k a b = le-antisymm (b .longest j (a .within) (a .begins)) (a .longest k (b .within) (b .begins))
-
+-- there is one earliest repeated name
 earliest-one : (d : Description) (j k : ℕ) → EarliestRepeat d j → EarliestRepeat d k → j ≡ k
 earliest-one d j k a b = by (decLe j k) (decLe k j)
   where
@@ -71,23 +72,20 @@ pub told-is : {t : List ℕ} {r : Reading} → Told t r → r ≡ reading t
 told-is {t} (over l) = sym (reading-over t l)
 told-is {t} (departs {k = k} l none h) = by (judged t l)
   where
-    by : Decided t → refusing (Refusal.NotOfTheForm k) ≡ reading t
+    by : Decided t → formless k ≡ reading t
     by (inl f) = absurd (none f)
-    by (inr (j, g, no-form, e)) = ap (λ (n : ℕ). refusing (Refusal.NotOfTheForm n)) (longest-one Form t k j h g) ∙ sym e
+    by (inr (j, g, no-form, e)) = ap formless (longest-one Form t k j h g) ∙ sym e
 told-is {t} (repeated d k l h is earliest) = by (ends d h)
   where
     by : Ends d → refusing (Refusal.FenceNameRepeats (nameStands d k)) ≡ reading t
     by (inl (e, alone)) = absurd (alone k (earliest .within) (earliest .repeats))
-    by (inr (j, other, e)) = ap (λ (n : ℕ). refusing (Refusal.FenceNameRepeats (nameStands d n))) (earliest-one d k j earliest other) ∙ sym (read-is d h t is l ∙ e)
+    by (inr (j, other, e)) =
+        ap (λ (n : ℕ). refusing (Refusal.FenceNameRepeats (nameStands d n))) (earliest-one d k j earliest other) ∙ sym (read-is d h t is l ∙ e)
 told-is {t} (accepted d l h is alone) = by (ends d h)
   where
     by : Ends d → accepting (held d) ≡ reading t
     by (inl (e, same)) = sym (read-is d h t is l ∙ e)
     by (inr (j, other, e)) = absurd (alone j (other .within) (other .repeats))
-
--- so two answers that the words allow are equal
-pub told-one : {t : List ℕ} {r s : Reading} → Told t r → Told t s → r ≡ s
-told-one a b = told-is a ∙ sym (told-is b)
 
 -- an answer that equals the reader's is told by the words
 pub meets : (t : List ℕ) {r : Reading} → r ≡ reading t → (r ≡ reading t) × Told t r

@@ -1,5 +1,6 @@
 pub mod Model
 pub mod Text
 pub mod Form
-pub mod Scan
+pub mod Told
+pub mod inner
 pub mod Reading

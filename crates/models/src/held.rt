@@ -1,7 +1,7 @@
 // How a model is held: the makers of names, of models without fences and of refused readings.
 ghost use mathlib.Core.Path.{_≡_};
 ghost use lib.ListN.{take};
-ghost use Rattle.models.specs.Reading.{filled, bare, refusing};
+ghost use Rattle.models.specs.Told.{filled, bare, refusing};
 use crate::model::Model;
 use crate::model::Name;
 use crate::model::Reading;

@@ -1,12 +1,13 @@
 // The reader: from a text to a model.
 ghost use Prim.Native.Nat.{_+_, _≤_};
 ghost use mathlib.Core.Path.{_≡_};
-ghost use mathlib.Core.Bool.{cond};
-ghost use lib.Dec.{eqb};
 ghost use lib.ListN.{length, take, drop};
 ghost use Rattle.ground.specs.Bytes.{sameBytes};
-ghost use Rattle.models.specs.Scan.{levelOf, nameRun};
-ghost use Rattle.models.specs.Reading.{nameIn, tableIn, among, finished, ended, linesFrom, reading, Told};
+ghost use Rattle.texts.specs.NamePart.{nameRun};
+ghost use Rattle.models.specs.Told.{Told};
+ghost use Rattle.models.specs.inner.Lines.{levelOf};
+ghost use Rattle.models.specs.inner.Progress.{among, repeatPlace, finished};
+ghost use Rattle.models.specs.Reading.{nameIn, tableIn, ended, linesFrom, reading};
 use crate::held;
 use crate::model::Model;
 use crate::model::Name;
@@ -14,10 +15,10 @@ use crate::model::Reading;
 use crate::scan;
 use crate::scan::Line;
 use crate::scan::LineRead;
-use crate::scan::Step;
 use answers::Refusal;
 use answers::Verdict;
 use tables::table::Table;
+use texts::Step;
 
 // A model in the making, and the place of the first fence name that stood above already (0 while there is none).
 struct Progress {
@@ -112,7 +113,7 @@ fn finish(p: Progress) -> Reading
 // The place of the first name that stood above already: one was found, or it is the place of this name, or there is none.
 fn repeat_place(found: usize, name: Name, names: [Name; 16], count: usize, at: usize) -> usize
     requires { ⌜ count ≤ 16 ⌝ }
-    ensures { λ r. ⌜ r ≡ cond (eqb found 0) (cond (among name (take count names)) at 0) found ⌝ }
+    ensures { λ r. ⌜ r ≡ repeatPlace found name (take count names) at ⌝ }
 {
     if found != 0 {
         return found;
@@ -126,7 +127,7 @@ fn repeat_place(found: usize, name: Name, names: [Name; 16], count: usize, at: u
 fn end(text: &[u8], p: Progress, at: usize) -> Reading
     ensures { λ r. ⌜ r ≡ ended (now (text .entry)) p at ⌝ }
 {
-    match scan::follow(text, at, b"end\n") {
+    match texts::follow(text, at, b"end\n") {
         Step::Stuck(at) => held::refuse(Refusal::NotOfTheForm(at)),
         Step::Next(past) => {
             if past == text.len() {

@@ -1,10 +1,9 @@
--- `refuse` meets its contract. Assumes nothing.
-use Rattle.models.specs.declared.model.Model.{Model}
-use Rattle.answers.specs.declared.Verdict.{Verdict}
--- `refuse` meets its contract. Assumes nothing.
-use mathlib.Core.Path.{ap}
+-- `refuse` meets its contract: what is refused holds nothing. Assumes nothing.
 use Prim.Native.Nat.{_-_}
+use mathlib.Core.Path.{ap}
 use borrow.Author.Needs.{needs}
+use Rattle.answers.specs.declared.Verdict.{Verdict}
+use Rattle.models.specs.declared.model.Model.{Model}
 use Rattle.models.proofs.held.refuse.Statement.{statement}
 use Rattle.models.proofs.held.refuse.Tie as tie
 

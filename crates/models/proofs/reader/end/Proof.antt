@@ -1,9 +1,10 @@
--- `end` meets its contract. Assumes nothing.
+-- `end` meets its contract: the word decides, and then whether it ends the text. Assumes nothing.
 use mathlib.Core.Path.{_∙_}
 use borrow.Author.Tests.{eq-eqb, ne-eqb}
 use borrow.Author.Needs.{needs}
 use Rattle.models.specs.Reading.{ended}
-use Rattle.models.proofs.Steps.{step-stuck, step-next}
+use Rattle.texts.proofs.Language.{step-stuck, step-next}
+use Rattle.models.specs.inner.Progress.{formless}
 use Rattle.models.proofs.reader.end.Statement.{statement}
 use Rattle.models.proofs.reader.end.Tie as tie
 
@@ -27,18 +28,22 @@ finish-requires c κs = search needs
 
 returns : tie.Need-returns
 unfolding ended
-returns c = step-next _ (c .before .before .before .before .before .follow .ensures) (c .before .before .before .past .given .1) (c .finish .ensures ∙ simp (eq-eqb _ _ (c .before .if1 .taken)))
+returns c =
+    let at = c .before .before .before in
+    step-next formless _ (at .before .before .follow .ensures) (at .past .given .1) (c .finish .ensures ∙ simp (eq-eqb _ _ (c .before .if1 .taken)))
 
 refuse-requires-2 : tie.Need-refuse-requires-2
 refuse-requires-2 c κs = search needs
 
 returns-2 : tie.Need-returns-2
 unfolding ended
-returns-2 c = step-stuck _ (c .before .before .before .before .follow .ensures) (c .before .before .at .given .1) (c .refuse .ensures)
+returns-2 c = step-stuck formless _ (c .before .before .before .before .follow .ensures) (c .before .before .at .given .1) (c .refuse .ensures)
 
 returns-3 : tie.Need-returns-3
 unfolding ended
-returns-3 c = step-next _ (c .before .before .before .before .before .follow .ensures) (c .before .before .before .past .given .1) (c .refuse2 .ensures ∙ simp (ne-eqb _ _ (c .before .if1 .left)))
+returns-3 c =
+    let at = c .before .before .before in
+    step-next formless _ (at .before .before .follow .ensures) (at .past .given .1) (c .refuse2 .ensures ∙ simp (ne-eqb _ _ (c .before .if1 .left)))
 
 pub end-spec : {M : Type 1} → statement M
 end-spec =

@@ -1,4 +1,4 @@
--- `finish` meets its contract. Assumes nothing.
+-- `finish` meets its contract: a place was kept or none was. Assumes nothing.
 use Prim.Native.Nat.{_-_}
 use mathlib.Core.Path.{_∙_}
 use borrow.Author.Tests.{eq-eqb, ne-eqb}

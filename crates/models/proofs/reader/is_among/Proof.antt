@@ -1,15 +1,14 @@
--- `is_among` meets its contract. Assumes nothing.
-use lib.Seq.{length-take-le, getD-take}
-use mathlib.Core.List.{[]}
-use Rattle.models.specs.declared.model.Name.{Name}
--- `is_among` meets its contract. Assumes nothing.
-use borrow.Author.Needs.{needs}
-use mathlib.Core.Path.{_≡_, refl, sym, ap, _∙_}
+-- `is_among` meets its contract: whether the name stands among all is whether it stands among those from here on. Assumes nothing.
 use Prim.Native.Nat.{_-_, _≤_, _<_}
+use mathlib.Core.List.{[]}
+use mathlib.Core.Path.{_≡_, refl, sym, ap, _∙_}
 use native.Mathlib.Omega.{arith}
+use borrow.Author.Needs.{needs}
+use lib.Seq.{length-take-le, getD-take}
 use lib.ListN.{length, getD, take, drop}
 use Rattle.ground.specs.Bytes.{sameBytes}
-use Rattle.models.specs.Reading.{among}
+use Rattle.models.specs.declared.model.Name.{Name}
+use Rattle.models.specs.inner.Progress.{among}
 use Rattle.models.proofs.Taken.{among-here, among-more, among-done}
 use Rattle.models.proofs.reader.is_among.Statement.{statement}
 use Rattle.models.proofs.reader.is_among.Tie as tie
@@ -18,7 +17,8 @@ abbrev none : Name
 none = record { bytes = [] }
 
 abbrev Inv-loop : tie.InvT-loop
-Inv-loop name count names i₀ i = (i ≤ count) × (count ≤ 16) × (length names ≡ 16) × (among name (take count names) ≡ among name (drop i (take count names)))
+Inv-loop name count names i₀ i =
+    (i ≤ count) × (count ≤ 16) × (length names ≡ 16) × (among name (take count names) ≡ among name (drop i (take count names)))
 
 abbrev μ-loop : tie.MeasureT-loop
 μ-loop name count names i₀ i = count - i

@@ -4,6 +4,7 @@ use mathlib.Core.Path.{_≡_, refl, sym, ap, _∙_}
 use native.Mathlib.Omega.{arith}
 use borrow.Author.Needs.{needs}
 use denote.Ref.{now}
+use lib.ListN.{getD}
 use Rattle.models.specs.declared.scan.Line.{Line}
 use Rattle.models.specs.declared.model.Reading.{Reading}
 use Rattle.models.specs.declared.reader.Progress.{Progress}
@@ -31,9 +32,11 @@ end-requires c κs = search needs
 
 returns : tie.Need-returns Inv-loop μ-loop
 returns c =
-    let l = c .before .before .before .before .loop in
-    c .end .ensures
-    ∙ sym (l .inv .1 ∙ lines-end (now (c .before .before .before .before .before .before .before .args .text)) (record { model = l .model; repeat = l .repeat }) (l .here) (l .left) (λ e. c .before .if1 .taken (c .before .before .byte-at .ensures ∙ e)))
+    let loop = c .before .before .before .before in
+    let l = loop .loop in
+    let t = now (loop .before .before .before .args .text) in
+    let other : getD t (l .here) 0 ≡ 102 → ⊥ = λ e. c .before .if1 .taken (c .before .before .byte-at .ensures ∙ e) in
+    c .end .ensures ∙ sym (l .inv .1 ∙ lines-end t (record { model = l .model; repeat = l .repeat }) (l .here) (l .left) other)
 
 fence-line-requires : tie.Need-fence-line-requires Inv-loop μ-loop
 fence-line-requires c κs = search needs
@@ -46,22 +49,37 @@ refuse-requires c κs = search needs
 
 returns-2 : tie.Need-returns-2 Inv-loop μ-loop
 returns-2 c =
-    let l = c .before .before .before .before .before .before .before .before .loop in
+    let fence = c .before .before .before .before in
+    let byte = fence .before .before in
+    let l = byte .before .before .loop in
     let p : Progress = record { model = l .model; repeat = l .repeat } in
-    let t = now (c .before .before .before .before .before .before .before .before .before .before .before .args .text) in
-    line-stuck (λ line. linesFrom (l .left - 1) t (fenceFrom t p line) (line .next)) (c .before .before .before .before .fence-line .ensures) (c .before .before .at .given .1) (c .refuse .ensures)
-    ∙ sym (l .inv .1 ∙ lines-fence t p (l .here) (l .left) (c .before .before .before .before .before .before .before .loop-test .taken) (sym (c .before .before .before .before .before .before .byte-at .ensures) ∙ c .before .before .before .before .before .if1 .left))
+    let t = now (byte .before .before .before .before .before .args .text) in
+    let next : Line → Reading = λ line. linesFrom (l .left - 1) t (fenceFrom t p line) (line .next) in
+    let begins = sym (byte .byte-at .ensures) ∙ fence .before .if1 .left in
+    line-stuck next (fence .fence-line .ensures) (c .before .before .at .given .1) (c .refuse .ensures)
+    ∙ sym (l .inv .1 ∙ lines-fence t p (l .here) (l .left) (byte .before .loop-test .taken) begins)
 
 enum-known-line : tie.Need-enum-known-line Inv-loop μ-loop
 enum-known-line c = search needs
 
 sub-name-in : tie.Need-sub-name-in Inv-loop μ-loop
-sub-name-in c = (fence-name (now (c .before .before .before .before .before .before .before .before .before .before .before .args .text)) (c .before .before .line .given .0 .0) (c .before .before .before .before .before .before .before .before .loop .here) (sym (c .before .before .before .before .fence-line .ensures) ∙ c .before .before .line .given .1)) .above
+sub-name-in c =
+    let line = c .before .before in
+    let fence = line .before .before in
+    let loop = fence .before .before .before .before in
+    let l = loop .loop in
+    let t = now (loop .before .before .before .args .text) in
+    fence-name t (line .line .given .0 .0) (l .here) (sym (fence .fence-line .ensures) ∙ line .line .given .1) .above
 
 name-in-requires : tie.Need-name-in-requires Inv-loop μ-loop
 name-in-requires c κs =
-    let e = fence-name (now (c .before .before .before .before .before .before .before .before .before .before .before .args .text)) (c .before .before .line .given .0 .0) (c .before .before .before .before .before .before .before .before .loop .here) (sym (c .before .before .before .before .fence-line .ensures) ∙ c .before .before .line .given .1) in
-    (e .run, e .within)
+    let line = c .before .before in
+    let fence = line .before .before in
+    let loop = fence .before .before .before .before in
+    let l = loop .loop in
+    let t = now (loop .before .before .before .args .text) in
+    let ends = fence-name t (line .line .given .0 .0) (l .here) (sym (fence .fence-line .ensures) ∙ line .line .given .1) in
+    (ends .run, ends .within)
 
 rest-requires : tie.Need-rest-requires Inv-loop μ-loop
 rest-requires c κs = search needs
@@ -95,16 +113,23 @@ loop-less c = search needs
 
 loop-again : tie.Need-loop-again Inv-loop μ-loop
 loop-again c =
-    let l = c .before .before .before .before .before .before .before .before .before .before .before .before .before .loop in
+    let named = c .before .before .before .before in
+    let read = named .before .before .before in
+    let fence = read .before .before in
+    let byte = fence .before .before in
+    let l = byte .before .before .loop in
     let p : Progress = record { model = l .model; repeat = l .repeat } in
-    let t = now (c .before .before .before .before .before .before .before .before .before .before .before .before .before .before .before .before .args .text) in
-    let line = c .before .before .before .before .before .before .before .line .given .0 .0 in
+    let t = now (byte .before .before .before .before .before .args .text) in
+    let line = read .line .given .0 .0 in
     let next : Line → Reading = λ line. linesFrom (l .left - 1) t (fenceFrom t p line) (line .next) in
-    let more = fence-stored t p line (c .before .before .before .before .name-in .ensures) (c .before .before .table-in .ensures ∙ ap tableIn (c .before .before .before .rest .ensures)) (c .repeat-place .ensures) in (
+    let table = c .before .before .table-in .ensures ∙ ap tableIn (c .before .before .before .rest .ensures) in
+    let more = fence-stored t p line (named .name-in .ensures) table (c .repeat-place .ensures) in
+    let begins = sym (byte .byte-at .ensures) ∙ fence .before .if1 .left in
+    let on = ap (λ (p : Progress). linesFrom (l .left - 1) t p (line .next)) more in (
       omega arith,
       l .inv .1
-          ∙ lines-fence t p (l .here) (l .left) (c .before .before .before .before .before .before .before .before .before .before .before .before .loop-test .taken) (sym (c .before .before .before .before .before .before .before .before .before .before .before .byte-at .ensures) ∙ c .before .before .before .before .before .before .before .before .before .before .if1 .left)
-          ∙ sym (line-next next (c .before .before .before .before .before .before .before .before .before .fence-line .ensures) (c .before .before .before .before .before .before .before .line .given .1) (ap (λ (p : Progress). linesFrom (l .left - 1) t p (line .next)) more)),
+          ∙ lines-fence t p (l .here) (l .left) (byte .before .loop-test .taken) begins
+          ∙ sym (line-next next (fence .fence-line .ensures) (read .line .given .1) on),
     )
 
 end-requires-2 : tie.Need-end-requires-2 Inv-loop μ-loop
@@ -113,7 +138,9 @@ end-requires-2 c κs = search needs
 returns-3 : tie.Need-returns-3 Inv-loop μ-loop
 returns-3 c =
     let l = c .before .before .loop in
-    c .end2 .ensures ∙ sym (l .inv .1 ∙ lines-last (now (c .before .before .before .before .before .args .text)) (record { model = l .model; repeat = l .repeat }) (l .here) (l .left) (c .before .loop-test .left))
+    let t = now (c .before .before .before .before .before .args .text) in
+    let p : Progress = record { model = l .model; repeat = l .repeat } in
+    c .end2 .ensures ∙ sym (l .inv .1 ∙ lines-last t p (l .here) (l .left) (c .before .loop-test .left))
 
 pub lines-spec : {M : Type 1} → statement M
 lines-spec =

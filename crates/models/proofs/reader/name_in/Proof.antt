@@ -1,4 +1,4 @@
--- `name_in` meets its contract. Assumes nothing.
+-- `name_in` meets its contract: a name's bytes are as many as were counted, at most sixteen. Assumes nothing.
 use Prim.Native.Nat.{ℕ, _-_}
 use mathlib.Core.Path.{_≡_, ap, _∙_}
 use mathlib.Core.List.{List}
@@ -7,9 +7,10 @@ use borrow.Author.Needs.{needs}
 use denote.Ref.{now}
 use lib.ListN.{take, drop}
 use lib.Seq.{take-all, length-take-le}
-use Rattle.models.specs.Scan.{nameRun}
-use Rattle.models.specs.Reading.{filled, nameIn}
-use Rattle.models.proofs.NamePart.{run-few, run-within}
+use Rattle.texts.specs.NamePart.{nameRun}
+use Rattle.models.specs.Told.{filled}
+use Rattle.models.specs.Reading.{nameIn}
+use Rattle.texts.proofs.NamePart.{run-few, run-within}
 use Rattle.models.proofs.reader.name_in.Statement.{statement}
 use Rattle.models.proofs.reader.name_in.Tie as tie
 

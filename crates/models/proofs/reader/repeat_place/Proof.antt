@@ -1,4 +1,4 @@
--- `repeat_place` meets its contract. Assumes nothing.
+-- `repeat_place` meets its contract: each `return` by the tests that led there. Assumes nothing.
 use mathlib.Core.Path.{sym, _∙_}
 use borrow.Author.Tests.{eq-eqb, ne-eqb}
 use borrow.Author.Needs.{needs}

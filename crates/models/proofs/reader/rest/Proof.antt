@@ -1,4 +1,4 @@
--- `rest` meets its contract. Assumes nothing.
+-- `rest` meets its contract: a place past the end leaves nothing. Assumes nothing.
 use Prim.Native.Nat.{_-_}
 use mathlib.Core.Path.{sym, ap, _∙_}
 use native.Mathlib.Omega.{arith}
@@ -28,10 +28,17 @@ part-result-end-2 : tie.Need-part-result-end-2
 part-result-end-2 c = search needs
 
 returns : tie.Need-returns
-returns c = let t = now (c .before .before .args .text) in let at = c .before .before .args .at in take-all (length t - at) (drop at t) (omega (arith, length-drop at t))
+returns c =
+    let t = now (c .before .before .args .text) in
+    let at = c .before .before .args .at in
+    take-all (length t - at) (drop at t) (omega (arith, length-drop at t))
 
 returns-2 : tie.Need-returns-2
-returns-2 c = let t = now (c .before .before .args .text) in let none = drop-of-length-le t {i = length t} (omega arith) in ap (take (length t - length t)) none ∙ take-nil (length t - length t) ∙ sym (drop-of-length-le t {i = c .before .before .args .at} (omega arith))
+returns-2 c =
+    let t = now (c .before .before .args .text) in
+    let none = drop-of-length-le t {i = length t} (omega arith) in
+    let past = drop-of-length-le t {i = c .before .before .args .at} (omega arith) in
+    ap (take (length t - length t)) none ∙ take-nil (length t - length t) ∙ sym past
 
 pub rest-spec : {M : Type 1} → statement M
 rest-spec =

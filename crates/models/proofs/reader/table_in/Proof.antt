@@ -1,14 +1,11 @@
--- `table_in` meets its contract. Assumes nothing.
-use denote.Ref.{now}
-use mathlib.Core.Path.{ap}
-use lib.ListN.{length-set}
--- `table_in` meets its contract. Assumes nothing.
-use borrow.Author.Needs.{needs}
-use mathlib.Core.Path.{_≡_, _∙_}
+-- `table_in` meets its contract: the levels stored so far are those of the text. Assumes nothing.
 use Prim.Native.Nat.{ℕ, _+_, _-_, _/_, _≤_, _<_}
+use mathlib.Core.Path.{ap, _≡_, _∙_}
 use native.Mathlib.Omega.{arith}
-use lib.ListN.{length, getD}
-use Rattle.models.specs.Scan.{levelOf}
+use borrow.Author.Needs.{needs}
+use denote.Ref.{now}
+use lib.ListN.{length-set, length, getD}
+use Rattle.models.specs.inner.Lines.{levelOf}
 use Rattle.models.proofs.Taken.{stored-more, levels-read}
 use Rattle.models.proofs.reader.table_in.Statement.{statement}
 use Rattle.models.proofs.reader.table_in.Tie as tie
@@ -41,13 +38,21 @@ loop-less : tie.Need-loop-less Inv-loop μ-loop
 loop-less c = search needs
 
 loop-again : tie.Need-loop-again Inv-loop μ-loop
-loop-again c = let l = c .before .before .before .loop in (search needs, simp length-set (l .inv .1), stored-more (l .levels) (l .i) _ (λ (j : ℕ). levelOf (getD (now (c .before .before .before .before .before .args .text)) (j + j / 4) 0)) (omega arith) (c .level-of .ensures ∙ ap levelOf (c .before .byte-at .ensures)) (l .inv .2))
+loop-again c =
+    let l = c .before .before .before .loop in
+    let t = now (c .before .before .before .before .before .args .text) in
+    let level = c .level-of .ensures ∙ ap levelOf (c .before .byte-at .ensures) in
+    let more = stored-more (l .levels) (l .i) _ (λ (j : ℕ). levelOf (getD t (j + j / 4) 0)) (omega arith) level (l .inv .2) in
+    (search needs, simp length-set (l .inv .1), more)
 
 of-levels-requires : tie.Need-of-levels-requires Inv-loop μ-loop
 of-levels-requires c κs = search needs
 
 returns : tie.Need-returns Inv-loop μ-loop
-returns c = c .of-levels .ensures ∙ levels-read (now (c .before .before .before .before .args .text)) (c .before .before .loop .levels) (λ j lj. c .before .before .loop .inv .2 j (omega arith))
+returns c =
+    let l = c .before .before .loop in
+    c .of-levels .ensures
+    ∙ levels-read (now (c .before .before .before .before .args .text)) (l .levels) (λ j lj. l .inv .2 j (omega arith))
 
 pub table-in-spec : {M : Type 1} → statement M
 table-in-spec =

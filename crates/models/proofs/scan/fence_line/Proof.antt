@@ -1,6 +1,8 @@
--- `fence_line` meets its contract. Assumes nothing.
+-- `fence_line` meets its contract: the word decides, then the name, and then the rest. Assumes nothing.
+use mathlib.Core.Path.{refl}
 use borrow.Author.Needs.{needs}
-use Rattle.models.proofs.Steps.{after-stuck, after-next}
+use Rattle.texts.proofs.Language.{step-stuck, step-next}
+use Rattle.models.specs.declared.scan.LineRead.{LineRead}
 use Rattle.models.specs.Reading.{fenceAt}
 use Rattle.models.proofs.scan.fence_line.Statement.{statement}
 use Rattle.models.proofs.scan.fence_line.Tie as tie
@@ -31,15 +33,22 @@ line-end-requires c κs = search needs
 
 returns : tie.Need-returns
 unfolding fenceAt
-returns c = after-stuck _ (c .before .before .before .follow .ensures) (c .before .at .given .1)
+returns c = step-stuck LineRead.Stuck _ (c .before .before .before .follow .ensures) (c .before .at .given .1) refl
 
 returns-2 : tie.Need-returns-2
 unfolding fenceAt
-returns-2 c = after-next _ (c .before .before .before .before .before .before .before .follow .ensures) (c .before .before .before .before .before .name-at .given .1) (after-stuck _ (c .before .before .before .name .ensures) (c .before .at2 .given .1))
+returns-2 c =
+    let word = c .before .before .before .before .before in
+    let name = step-stuck LineRead.Stuck _ (c .before .before .before .name .ensures) (c .before .at2 .given .1) refl in
+    step-next LineRead.Stuck _ (word .before .before .follow .ensures) (word .name-at .given .1) name
 
 returns-3 : tie.Need-returns-3
 unfolding fenceAt
-returns-3 c = after-next _ (c .before .before .before .before .before .before .before .before .follow .ensures) (c .before .before .before .before .before .before .name-at .given .1) (after-next _ (c .before .before .before .before .name .ensures) (c .before .before .table .given .1) (c .line-end .ensures))
+returns-3 c =
+    let named = c .before .before in
+    let word = named .before .before .before .before in
+    let name = step-next LineRead.Stuck _ (named .before .before .name .ensures) (named .table .given .1) (c .line-end .ensures) in
+    step-next LineRead.Stuck _ (word .before .before .follow .ensures) (word .name-at .given .1) name
 
 pub fence-line-spec : {M : Type 1} → statement M
 fence-line-spec =

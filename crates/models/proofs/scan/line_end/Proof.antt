@@ -1,7 +1,8 @@
--- `line_end` meets its contract. Assumes nothing.
+-- `line_end` meets its contract: the table's part decides. Assumes nothing.
 use mathlib.Core.Path.{refl}
 use borrow.Author.Needs.{needs}
-use Rattle.models.proofs.Steps.{after-stuck, after-next}
+use Rattle.texts.proofs.Language.{step-stuck, step-next}
+use Rattle.models.specs.declared.scan.LineRead.{LineRead}
 use Rattle.models.proofs.scan.line_end.Statement.{statement}
 use Rattle.models.proofs.scan.line_end.Tie as tie
 
@@ -15,10 +16,10 @@ enum-known-next : tie.Need-enum-known-next
 enum-known-next c = search needs
 
 returns : tie.Need-returns
-returns c = after-stuck _ (c .before .before .before .table-part .ensures) (c .before .at .given .1)
+returns c = step-stuck LineRead.Stuck _ (c .before .before .before .table-part .ensures) (c .before .at .given .1) refl
 
 returns-2 : tie.Need-returns-2
-returns-2 c = after-next _ (c .before .before .before .table-part .ensures) (c .before .next .given .1) refl
+returns-2 c = step-next LineRead.Stuck _ (c .before .before .before .table-part .ensures) (c .before .next .given .1) refl
 
 pub line-end-spec : {M : Type 1} → statement M
 line-end-spec =

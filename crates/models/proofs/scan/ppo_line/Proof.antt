@@ -1,6 +1,8 @@
--- `ppo_line` meets its contract. Assumes nothing.
+-- `ppo_line` meets its contract: the word decides, and then the rest of the line. Assumes nothing.
+use mathlib.Core.Path.{refl}
 use borrow.Author.Needs.{needs}
-use Rattle.models.proofs.Steps.{after-stuck, after-next}
+use Rattle.texts.proofs.Language.{step-stuck, step-next}
+use Rattle.models.specs.declared.scan.LineRead.{LineRead}
 use Rattle.models.proofs.scan.ppo_line.Statement.{statement}
 use Rattle.models.proofs.scan.ppo_line.Tie as tie
 
@@ -20,10 +22,12 @@ line-end-requires : tie.Need-line-end-requires
 line-end-requires c κs = search needs
 
 returns : tie.Need-returns
-returns c = after-stuck _ (c .before .before .before .follow .ensures) (c .before .at .given .1)
+returns c = step-stuck LineRead.Stuck _ (c .before .before .before .follow .ensures) (c .before .at .given .1) refl
 
 returns-2 : tie.Need-returns-2
-returns-2 c = after-next _ (c .before .before .before .before .follow .ensures) (c .before .before .table .given .1) (c .line-end .ensures)
+returns-2 c =
+    let at = c .before .before in
+    step-next LineRead.Stuck _ (at .before .before .follow .ensures) (at .table .given .1) (c .line-end .ensures)
 
 pub ppo-line-spec : {M : Type 1} → statement M
 ppo-line-spec =

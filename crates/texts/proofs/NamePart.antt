@@ -9,21 +9,14 @@ use native.Mathlib.Nat.{le-of-suc-le-suc}
 use native.Mathlib.Numerals.{add-one}
 use borrow.Author.Tests.{lt-ltb, le-ltb, eq-eqb, ne-eqb}
 use lib.Dec.{T}
-use lib.ListN.{length, take, getD, length-append, List·getD-append}
+use lib.ListN.{length, take, drop, getD, length-append, List·getD-append}
 use lib.Seq.{length-take-le, take-suc, getD-at, getD-take, take-at}
 use Rattle.ground.specs.Bytes.{nameByte}
-use Rattle.models.specs.declared.scan.Step.{Step}
-use Rattle.models.specs.Form.{Begins}
-use Rattle.models.specs.Model.{Each, NameFormed}
-use Rattle.models.specs.Scan.{nameRun, endName, nameStep}
-use Rattle.models.proofs.Language.{Language, PrefixFree, Reads, found, stuck}
-
-abbrev pub NameBytes : List ℕ → Type 0
-NameBytes n = Each (λ (b : ℕ). T (nameByte b)) n
-
--- a name and the byte e after it
-abbrev pub Ended : ℕ → Language
-Ended e a = (n : List ℕ) × NameFormed n × (a ≡ n ++ (e ∷ []))
+use Rattle.texts.specs.declared.Step.{Step}
+use Rattle.texts.specs.Language.{Language, Begins, Seq, Some, PrefixFree, Reads, found, stuck, shift, onStep, Judges}
+use Rattle.texts.specs.NamePart.{Each, NameBytes, NameFormed, Ended, nameRun, endName, nameStep, nameAt}
+use Rattle.texts.proofs.Language.{judges-seq}
+use Rattle.texts.proofs.Pattern.{chosen}
 
 pub each-at : {A : Type 0} (P : A → Type 0) (l : List A) (d : A) → Each P l → (i : ℕ) → i < length l → P (getD l i d)
 each-at P [] d h i li = absurd (omega arith)
@@ -171,7 +164,8 @@ free-ended e not-name s m n lm ln (a, fa, ea) (b, fb, eb) = by (decLt (length a)
     long : (c : List ℕ) (i : ℕ) → i ≤ length s → take i s ≡ c ++ (e ∷ []) → i ≡ length c + 1
     long c i li is = sym (length-take-le i s li) ∙ ap length is ∙ length-append c (e ∷ [])
 
-    apart : (c f : List ℕ) (i j : ℕ) → i ≤ length s → j ≤ length s → take i s ≡ c ++ (e ∷ []) → take j s ≡ f ++ (e ∷ []) → NameFormed f → length c < length f → ⊥
+    apart : (c f : List ℕ) (i j : ℕ) → i ≤ length s → j ≤ length s → take i s ≡ c ++ (e ∷ []) → take j s ≡ f ++ (e ∷ []) → NameFormed f
+        → length c < length f → ⊥
     apart c f i j li lj ci fj formed l =
         let wi : take i s ++ [] ≡ c ++ (e ∷ []) = append-nil (take i s) ∙ ci in
         let wj : take j s ++ [] ≡ f ++ (e ∷ []) = append-nil (take j s) ∙ fj in
@@ -206,3 +200,33 @@ name-whole e not-name n rest f = by (reads-name e not-name (n ++ (e ∷ rest)))
     by : {r : Step} → Reads (Ended e) whole r → r ≡ Step.Next (length n + 1)
     by (stuck h none) = absurd (none (length n + 1) reach is)
     by (found {n = m} lm a) = ap Step.Next (free-ended e not-name whole m (length n + 1) lm reach a is)
+
+-- a text by which a beginning can be completed
+pub some-name : (e : ℕ) → Some (Ended e)
+some-name e = (65 ∷ e ∷ [], (65 ∷ [], record { some = omega arith; few = omega arith; bytes = (tt, tt) }, refl))
+
+-- a name is counted up to the byte after it
+pub run-whole : (limit : ℕ) (n rest : List ℕ) (e : ℕ) → NameBytes n → length n ≤ limit → (T (nameByte e) → ⊥)
+    → nameRun limit (n ++ (e ∷ rest)) ≡ length n
+unfolding nameRun
+run-whole zero [] rest e h l not-name = refl
+run-whole zero (b ∷ n) rest e h l not-name = absurd (omega arith)
+run-whole (suc limit) [] rest e h l not-name = by (nameByte e) not-name
+  where
+    by : (q : Bool) → (T q → ⊥) → cond q (suc (nameRun limit rest)) 0 ≡ 0
+    by true h = absurd (h tt)
+    by false h = refl
+run-whole (suc limit) (b ∷ n) rest e h l not-name =
+    chosen (nameByte b) _ _ (h .0) ∙ ap suc (run-whole limit n rest e (h .1) (le-of-suc-le-suc l) not-name)
+
+-- a name at a place of the whole text
+pub name-found : (t n rest : List ℕ) (e at : ℕ) → drop at t ≡ (n ++ (e ∷ [])) ++ rest → NameFormed n → (T (nameByte e) → ⊥)
+    → nameAt e t at ≡ Step.Next (at + (length n + 1))
+name-found t n rest e at is f not-name =
+    ap (λ (s : List ℕ). shift at (nameStep e s)) (is ∙ append-assoc n (e ∷ []) rest) ∙ ap (shift at) (name-whole e not-name n rest f)
+
+-- a name, the byte after it and what comes after that, at any place of a text
+pub judges-name : {A : Type 0} (refuse : ℕ → A) (t : List ℕ) (M : Language) → Some M → (e : ℕ) → (T (nameByte e) → ⊥) → (g : ℕ → ℕ → A)
+    → ((a : ℕ) → Judges refuse M t (g a)) → Judges refuse (Seq (Ended e) M) t (λ at. onStep refuse (nameAt e t at) (g at))
+judges-name refuse t M some e not-name g rest =
+    judges-seq refuse (Ended e) M (free-ended e not-name) some t (nameStep e) (reads-name e not-name) g rest

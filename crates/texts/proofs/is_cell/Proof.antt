@@ -3,9 +3,9 @@ use Prim.Native.Nat.{ℕ}
 use mathlib.Core.Path.{_≡_}
 use borrow.Author.Tests.{eq-eqb, ne-eqb}
 use lib.Dec.{eqb}
-use Rattle.models.specs.Scan.{cellByte}
-use Rattle.models.proofs.scan.is_cell.Statement.{statement}
-use Rattle.models.proofs.scan.is_cell.Tie as tie
+use Rattle.texts.specs.Pattern.{cellByte}
+use Rattle.texts.proofs.is_cell.Statement.{statement}
+use Rattle.texts.proofs.is_cell.Tie as tie
 
 last : (b : ℕ) → (b ≡ 45 → ⊥) → (b ≡ 78 → ⊥) → (b ≡ 77 → ⊥) → eqb b 83 ≡ cellByte b
 last b x y z = simp (ne-eqb _ _ x, ne-eqb _ _ y, ne-eqb _ _ z)

@@ -1,9 +1,9 @@
--- `fits_pattern` meets its contract. Assumes nothing.
+-- `fits_pattern` meets its contract: each `return` by the test that led there. Assumes nothing.
 use mathlib.Core.Path.{_∙_}
 use borrow.Author.Tests.{eq-eqb, ne-eqb}
 use borrow.Author.Needs.{needs}
-use Rattle.models.proofs.scan.fits_pattern.Statement.{statement}
-use Rattle.models.proofs.scan.fits_pattern.Tie as tie
+use Rattle.texts.proofs.fits_pattern.Statement.{statement}
+use Rattle.texts.proofs.fits_pattern.Tie as tie
 
 is-cell-requires : tie.Need-is-cell-requires
 is-cell-requires c κs = search needs

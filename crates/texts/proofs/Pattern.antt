@@ -1,24 +1,19 @@
 -- Following a pattern: of a text either all of the pattern is found in front, or the steps stop at the longest beginning that it allows.
 -- Assumes nothing.
-use Prim.Native.Nat.{ℕ, zero, suc, _+_, _-_, _≤_, suc-le-suc, zero-le}
-use mathlib.Core.Path.{_≡_, refl, sym, ap, _∙_, subst}
-use mathlib.Core.Bool.{Bool, true, false, cond}
+use Prim.Native.Nat.{ℕ, zero, suc, _+_, _≤_, _<_, suc-le-suc, zero-le}
+use mathlib.Core.Path.{_≡_, refl, sym, ap, ap₂, _∙_, subst}
+use mathlib.Core.Bool.{Bool, true, false, not, _&&_, cond}
 use mathlib.Core.List.{List, [], _∷_, _++_}
+use native.Mathlib.Omega.{arith}
 use native.Mathlib.Nat.{le-of-suc-le-suc}
-use lib.Dec.{T, eqb, eqb-refl}
-use lib.ListN.{length, take}
+use lib.Dec.{T, eqb, eqb→eq, eqb-refl}
+use lib.ListN.{length, take, drop, getD}
 use lib.Seq.{length-take-le, take-nil}
-use Rattle.models.specs.declared.scan.Step.{Step}
-use Rattle.models.specs.Form.{Begins}
-use Rattle.models.specs.Scan.{cellByte, fits, further, follow}
-use Rattle.models.proofs.Language.{Language, PrefixFree, Reads, found, stuck}
-
--- as long as the pattern, and each byte fits
-abbrev pub Follows : List ℕ → Language
-Follows [] [] = Unit
-Follows [] (b ∷ a) = ⊥
-Follows (p ∷ ps) [] = ⊥
-Follows (p ∷ ps) (b ∷ a) = T (fits p b) × Follows ps a
+use Rattle.ground.proofs.Truths.{differ}
+use Rattle.texts.specs.declared.Step.{Step}
+use Rattle.texts.specs.Language.{Language, Begins, Seq, Some, PrefixFree, Reads, found, stuck, shift, onStep, Judges}
+use Rattle.texts.specs.Pattern.{cellByte, fits, Follows, isWord, further, follow, followAt}
+use Rattle.texts.proofs.Language.{judges-seq}
 
 pub length-follows : (ps a : List ℕ) → Follows ps a → length a ≡ length ps
 length-follows [] [] f = refl
@@ -107,3 +102,56 @@ reads-follow (p ∷ ps) (b ∷ s) = by (fits p b) (λ t. t) (λ t. t) (reads-fol
         → Reads (Follows (p ∷ ps)) (b ∷ s) (cond q (further (follow ps s)) (Step.Stuck 0))
     by true to back r = reads-more p b ps s (to tt) r
     by false to back r = reads-none p b ps s back
+
+-- a text by which a beginning can be completed
+pub some-follows : (ps : List ℕ) → Some (Follows ps)
+some-follows ps = (sample ps, sample-follows ps)
+
+-- of a text that follows a pattern each byte fits
+pub follow-at : (ps a : List ℕ) → Follows ps a → (i : ℕ) → i < length ps → T (fits (getD ps i 0) (getD a i 0))
+follow-at [] a f i l = absurd (omega arith)
+follow-at (p ∷ ps) [] f i l = absurd f
+follow-at (p ∷ ps) (b ∷ a) f zero l = f .0
+follow-at (p ∷ ps) (b ∷ a) f (suc i) l = follow-at ps a (f .1) i (le-of-suc-le-suc l)
+
+-- a word is followed by itself alone
+unmarked : (q r x y : Bool) → T (not q && r) → cond q x y ≡ y
+unmarked true r x y t = absurd t
+unmarked false r x y t = refl
+
+unmarked-rest : (q r : Bool) → T (not q && r) → T r
+unmarked-rest true r t = absurd t
+unmarked-rest false r t = t
+
+pub same-word : (ps a : List ℕ) → T (isWord ps) → Follows ps a → a ≡ ps
+same-word [] [] w f = refl
+same-word [] (b ∷ a) w f = absurd f
+same-word (p ∷ ps) [] w f = absurd f
+same-word (p ∷ ps) (b ∷ a) w f =
+    ap₂ (λ (x : ℕ) (l : List ℕ). x ∷ l) (eqb→eq b p (subst T (unmarked (eqb p 63) (isWord ps) (cellByte b) (eqb b p) w) (f .0)))
+    (same-word ps a (unmarked-rest (eqb p 63) (isWord ps) w) (f .1))
+
+pub own-word : (ps : List ℕ) → T (isWord ps) → Follows ps ps
+own-word [] w = tt
+own-word (p ∷ ps) w = (
+  subst T (sym (unmarked (eqb p 63) (isWord ps) (cellByte p) (eqb p p) w)) (eqb-refl p),
+  own-word ps (unmarked-rest (eqb p 63) (isWord ps) w),
+)
+
+-- a pattern at a place of the whole text
+pub followed : (ps t a b : List ℕ) (at : ℕ) → drop at t ≡ a ++ b → Follows ps a → followAt ps t at ≡ Step.Next (at + length ps)
+followed ps t a b at is f = ap (λ (s : List ℕ). shift at (follow ps s)) is ∙ ap (shift at) (follow-whole ps a b f)
+
+pub pattern-past : (ps t : List ℕ) (at p : ℕ) → followAt ps t at ≡ Step.Next p → at + length ps ≡ p
+pattern-past ps t at p = by (reads-follow ps (drop at t))
+  where
+    by : {r : Step} → Reads (Follows ps) (drop at t) r → shift at r ≡ Step.Next p → at + length ps ≡ p
+    by (found {n = m} lm f) is =
+        let same : at + m ≡ p = cc in
+        omega (arith, length-take-le m (drop at t) lm, length-follows ps (take m (drop at t)) f)
+    by (stuck h none) is = differ (cc)
+
+-- a pattern and what comes after it, at any place of a text
+pub judges-follow : {A : Type 0} (refuse : ℕ → A) (t : List ℕ) (M : Language) → Some M → (ps : List ℕ) (g : ℕ → ℕ → A)
+    → ((a : ℕ) → Judges refuse M t (g a)) → Judges refuse (Seq (Follows ps) M) t (λ at. onStep refuse (followAt ps t at) (g at))
+judges-follow refuse t M some ps g rest = judges-seq refuse (Follows ps) M (free-follows ps) some t (follow ps) (reads-follow ps) g rest
