@@ -17,7 +17,8 @@ use answers::Refusal;
 use answers::Verdict;
 use ground::Found;
 
-const LIMIT: usize = 7168;
+// The limit of an image's length.
+pub const LIMIT: usize = 7168;
 
 // Whether a zero stands among the first k bytes of the name.
 fn has_ended(image: &[u8], from: usize, k: usize) -> bool
