@@ -25,12 +25,12 @@ use Rattle.image.proofs.Theorems.{written-read}
 
 -- the call's own rows
 abbrev rows : List ℕ
-rows = replicate 5100 0
+rows = replicate (255 * stride) 0
 
 module _ (image : List ℕ) (bytes : (i : ℕ) → at image i < 256) where
   -- they have room for any machine, so that only the image is refused
   room : statesOf image * stride ≤ length rows
-  room = omega (arith, bytes 4, length-replicate {A = ℕ} 5100 0)
+  room = omega (arith, bytes 4, length-replicate {A = ℕ} (255 * stride) 0)
 
   verdict-kept : (v : Verdict) → readAs image (length rows) v .verdict ≡ v
   verdict-kept (Verdict.Refused why) = refl

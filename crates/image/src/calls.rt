@@ -4,6 +4,7 @@ ghost use Rattle.ground.specs.Bytes.{at};
 ghost use Rattle.answers.specs.Given.{Delivers};
 ghost use Rattle.image.specs.Calls.{writtenBack, headerAs};
 use crate::machine::STRIDE;
+use crate::machine::WORDS;
 use crate::reader;
 use crate::writer;
 use answers::Answer;
@@ -12,7 +13,7 @@ use answers::Verdict;
 fn write_back(image: &[u8], out: &mut [u8]) -> Answer
     ensures { λ r. ⌜ Delivers (writtenBack (now (image .entry))) (now (out .entry)) r (now (out .exit)) ⌝ }
 {
-    let mut rows = [0u16; 5100];
+    let mut rows = [0u16; WORDS];
     let reading = reader::read(image, &mut rows);
     let verdict = reading.verdict;
     let header = reading.header;

@@ -61,7 +61,7 @@ fn header(image: &[u8]) -> Header
 }
 
 fn fill_rows(image: &[u8], rows: &mut [u16], count: usize)
-    requires { ⌜ (count ≤ 5100) × (count ≤ length (now rows)) ⌝ }
+    requires { ⌜ (count ≤ 255 * stride) × (count ≤ length (now rows)) ⌝ }
     ensures { λ _. ⌜ Filled (now (rows .entry)) (rowWord (now (image .entry))) count (now (rows .exit)) ⌝ }
 {
     let mut j = 0;
