@@ -148,49 +148,40 @@ module _ (image : List ℕ) (bytes : (i : ℕ) → at image i < 256) (faultless 
       → word (rowsOf image) q a ≡ 256 * at image (position 1 q (2 * a)) + at image (position 1 q (2 * a + 1))
   access-word q a l k = word-is q a l (omega arith) ∙ access-is q a k
 
+  -- of a state that there is, and of one that there is not
+  used-same : (q v i : ℕ) → (q < statesOf image → v ≡ at image i) → (statesOf image ≤ q → at image i ≡ 0)
+      → cond (ltb q (statesOf image)) v 0 ≡ at image i
+  used-same q v i there none = go (decLt q (statesOf image))
+    where
+      go : Dec (q < statesOf image) → cond (ltb q (statesOf image)) v 0 ≡ at image i
+      go (yes l) = rw (lt-ltb q (statesOf image) l) (there l)
+      go (no l) = let m : statesOf image ≤ q = omega arith in rw (le-ltb q (statesOf image) m) (sym (none m))
+
   fence-same : (q a i : ℕ) → i ≡ position 1 q (2 * a) → a < 4 → barredFence image q (at image i) ≡ false
       → cond (ltb q (statesOf image)) (word (rowsOf image) q a / 256) 0 ≡ at image i
-  fence-same q a i e k h = go (decLt q (statesOf image))
-    where
-      go : Dec (q < statesOf image) → cond (ltb q (statesOf image)) (word (rowsOf image) q a / 256) 0 ≡ at image i
-      go (yes l) =
-          rw (lt-ltb q (statesOf image) l)
-          (omega (arith, access-word q a l k, bytes (position 1 q (2 * a + 1)), ap (at image) e))
-      go (no l) =
-          let m : statesOf image ≤ q = omega arith in
-          rw (le-ltb q (statesOf image) m) (sym (fence-zero q (at image i) m h))
+  fence-same q a i e k h =
+      used-same q _ i (λ l. omega (arith, access-word q a l k, bytes (position 1 q (2 * a + 1)), ap (at image) e))
+      (λ m. fence-zero q (at image i) m h)
 
   next-same : (q a i : ℕ) (t : Bool) → i ≡ position 1 q (2 * a + 1) → a < 4 → leb (nextBelow image q t) (at image i) ≡ false
       → cond (ltb q (statesOf image)) (word (rowsOf image) q a % 256) 0 ≡ at image i
-  next-same q a i t e k h = go (decLt q (statesOf image))
-    where
-      go : Dec (q < statesOf image) → cond (ltb q (statesOf image)) (word (rowsOf image) q a % 256) 0 ≡ at image i
-      go (yes l) =
-          rw (lt-ltb q (statesOf image) l)
-          (omega (arith, access-word q a l k, bytes (position 1 q (2 * a + 1)), ap (at image) e))
-      go (no l) =
-          let m : statesOf image ≤ q = omega arith in
-          rw (le-ltb q (statesOf image) m) (sym (next-unused q (at image i) t m h))
+  next-same q a i t e k h =
+      used-same q _ i (λ l. omega (arith, access-word q a l k, bytes (position 1 q (2 * a + 1)), ap (at image) e))
+      (λ m. next-unused q (at image i) t m h)
 
   onward-same : (q f i : ℕ) → i ≡ position 1 q (8 + f) → f < 16
       → leb (nextBelow image q (ltb f (upstreamFencesOf image))) (at image i) ≡ false
       → cond (ltb q (statesOf image)) (word (rowsOf image) q (4 + f) % 256) 0 ≡ at image i
-  onward-same q f i e k h = go (decLt q (statesOf image)) (decLt f (upstreamFencesOf image))
+  onward-same q f i e k h =
+      used-same q _ i (λ l. there l (decLt f (upstreamFencesOf image))) (λ m. next-unused q (at image i) _ m h)
     where
-      go : Dec (q < statesOf image) → Dec (f < upstreamFencesOf image)
-          → cond (ltb q (statesOf image)) (word (rowsOf image) q (4 + f) % 256) 0 ≡ at image i
-      go (yes l) (yes m) =
-          rw (lt-ltb q (statesOf image) l)
-          (omega
-          (arith, word-is q (4 + f) l (omega arith) ∙ fence-is q f m, bytes (position 1 q (8 + f)), ap (at image) e))
-      go (yes l) (no m) =
+      there : q < statesOf image → Dec (f < upstreamFencesOf image) → word (rowsOf image) q (4 + f) % 256 ≡ at image i
+      there l (yes m) =
+          omega (arith, word-is q (4 + f) l (omega arith) ∙ fence-is q f m, bytes (position 1 q (8 + f)), ap (at image) e)
+      there l (no m) =
           let n : upstreamFencesOf image ≤ f = omega arith in
-          rw (lt-ltb q (statesOf image) l)
-          (omega
-          (arith, word-is q (4 + f) l (omega arith) ∙ absent-is q f n, next-nowhere q (at image i) _ l (le-ltb f (upstreamFencesOf image) n) h))
-      go (no l) m =
-          let n : statesOf image ≤ q = omega arith in
-          rw (le-ltb q (statesOf image) n) (sym (next-unused q (at image i) _ n h))
+          omega
+          (arith, word-is q (4 + f) l (omega arith) ∙ absent-is q f n, next-nowhere q (at image i) _ l (le-ltb f (upstreamFencesOf image) n) h)
 
   same-as : (i : ℕ) → i < length image → i % 512 < 510 → (place : Place) → Stands i place → barredAs image i (at image i) place ≡ false
       → valueAs (headerOf image) (rowsOf image) i place ≡ at image i

@@ -16,9 +16,10 @@ same-length c = search needs
 
 returns : tie.Need-returns
 returns c =
-    let filled = c .before .before .before .before .before .before in
+    let sealed = c .before .before in
+    let filled = sealed .before .before .before .before in
     let pre = filled .before .before .before .before .pre in
-    rw (c .before .before .seal .ensures)
+    rw (sealed .seal .ensures)
     (sealed-front _ _ _ (filled .fill-contents .ensures) (omega (arith, filled .fill-contents .kept .1 .1 .0, pre .0)))
 
 pub fill-block-spec : {M : Type 1} → statement M
