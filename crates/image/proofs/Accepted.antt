@@ -10,48 +10,42 @@ use borrow.Author.Tests.{lt-ltb, le-ltb, le-leb, eq-eqb, ne-eqb, ltb-false, leb-
 use lib.Dec.{leb, ltb, eqb}
 use lib.ListN.{length}
 use Rattle.ground.specs.declared.Found.{Found}
-use Rattle.ground.specs.Lowest.{lowest}
 use Rattle.ground.specs.Bytes.{at}
+use Rattle.ground.proofs.Truths.{differ}
 use Rattle.answers.specs.declared.Refusal.{Refusal}
 use Rattle.answers.specs.declared.Verdict.{Verdict}
 use Rattle.operations.specs.Alphabet.{stride}
 use Rattle.layout.specs.declared.places.Place.{Place}
 use Rattle.layout.specs.Checksum.{twoBytes}
 use Rattle.layout.specs.Layout.{limit, blocksFor, standsAt, position}
-use Rattle.layout.specs.Barred.{wrong, checkOf, blockCount, wrongCount, barredFence, nextBelow, statesOf, upstreamFencesOf, targetFencesOf, barredAs, barred, stages, verdictOf}
-use Rattle.image.specs.Image.{word, half, used, valueAs, valueAt, byteAt, imageOf, headerOf, entryWord, rowsOf, AccessWord, Canonical}
+use Rattle.layout.specs.Barred.{wrong, checkOf, blockCount, wrongCount, barredFence, nextBelow, statesOf, upstreamFencesOf, targetFencesOf}
+use Rattle.layout.specs.Barred.{barredAs, barred, lowestWrong, lowestBarred, stages, verdictOf}
+use Rattle.image.specs.Image.{word, half, used, valueAs, valueAt, checkFor, byteAt, imageOf, headerOf, entryWord, rowsOf, AccessWord, Canonical}
+use Rattle.image.specs.inner.Faultless.{Faultless, Block}
 use Rattle.image.proofs.Inverse.{true-false, neither, chosen, equal, nowhere}
 use Rattle.image.proofs.Fronts.{at-listed, is-listed}
-use Rattle.layout.proofs.Standing.{Stands, stands, fence-at, next-at, onward-at, upstream-at, target-at, within-image}
+use Rattle.layout.specs.inner.Standing.{Stands}
+use Rattle.layout.proofs.Standing.{stands, fence-at, next-at, onward-at, upstream-at, target-at, within-image}
 use Rattle.image.proofs.NameFields.{good-field}
 use Rattle.layout.proofs.Sums.{check-same}
-use Rattle.image.proofs.Sealing.{byte-content, written-check, byte-high, byte-low}
+use Rattle.image.proofs.Sealing.{byte-content, byte-high, byte-low}
 
 -- the stages of an acceptance
-abbrev Passes : Verdict → Type 0
-Passes Verdict.Accepted = Unit {0}
-Passes (Verdict.Refused why) = ⊥
-
 staged : (f g : Found) → stages f g ≡ Verdict.Accepted → (f ≡ Found.Nowhere) × (g ≡ Found.Nowhere)
-staged (Found.At b) g e = absurd (subst Passes (sym e) tt)
-staged Found.Nowhere (Found.At i) e = absurd (subst Passes (sym e) tt)
+staged (Found.At b) g e = differ (cc)
+staged Found.Nowhere (Found.At i) e = differ (cc)
 staged Found.Nowhere Found.Nowhere e = (refl, refl)
 
-pub record Right (image : List ℕ) : Type 0 where
-  pub fits : length image ≤ limit
-  pub blocks : (b : ℕ) → b < blockCount image → wrong image b ≡ false
-  pub bytes : (i : ℕ) → i < length image → barred image i ≡ false
-
-pub accepted-right : (image : List ℕ) → verdictOf image ≡ Verdict.Accepted → Right image
+pub accepted-faultless : (image : List ℕ) → verdictOf image ≡ Verdict.Accepted → Faultless image
 unfolding verdictOf
-accepted-right image e = go (ltb limit (length image)) refl e
+accepted-faultless image e = go (ltb limit (length image)) refl e
   where
     go : (t : Bool) → ltb limit (length image) ≡ t
         → cond t (Verdict.Refused Refusal.OverLimit)
-        (stages (lowest (wrong image) 0 (blockCount image)) (lowest (barred image) 0 (length image)))
+        (stages (lowestWrong image) (lowestBarred image))
         ≡ Verdict.Accepted
-        → Right image
-    go true h w = absurd (subst Passes (sym w) tt)
+        → Faultless image
+    go true h w = differ (cc)
     go false h w =
         let s = staged _ _ w in
         record {
@@ -59,12 +53,6 @@ accepted-right image e = go (ltb limit (length image)) refl e
           blocks = λ b l. nowhere (wrong image) (blockCount image) 0 (s .0) b (omega arith) (omega arith);
           bytes = λ i l. nowhere (barred image) (length image) 0 (s .1) i (omega arith) (omega arith);
         }
-
--- a block that is not wrong
-pub record Block (image : List ℕ) (b : ℕ) : Type 0 where
-  pub whole : 512 * b + 512 ≤ length image
-  pub number : twoBytes (at image (512 * b)) (at image (512 * b + 1)) ≡ b
-  pub check : twoBytes (at image (512 * b + 510)) (at image (512 * b + 510 + 1)) ≡ checkOf image b
 
 right-block : (image : List ℕ) (b : ℕ) → wrong image b ≡ false → Block image b
 unfolding wrong
@@ -77,13 +65,13 @@ right-block image b e =
       check = equal _ _ (t .1);
     }
 
-module _ (image : List ℕ) (bytes : (i : ℕ) → at image i < 256) (right : Right image) where
+module _ (image : List ℕ) (bytes : (i : ℕ) → at image i < 256) (faultless : Faultless image) where
   pub first-block : 512 ≤ length image
-  first-block = omega (arith, right-block image 0 (right .blocks 0 (omega arith)) .whole)
+  first-block = omega (arith, right-block image 0 (faultless .blocks 0 (omega arith)) .whole)
 
   pub unbarred : (i : ℕ) → i < length image → barredAs image i (at image i) (standsAt 1 i) ≡ false
   unfolding barred
-  unbarred i l = right .bytes i l
+  unbarred i l = faultless .bytes i l
 
   counted : wrongCount image (statesOf image) ≡ false
   unfolding standsAt
@@ -98,7 +86,7 @@ module _ (image : List ℕ) (bytes : (i : ℕ) → at image i < 256) (right : Ri
   length-is = equal _ _ (neither (eqb (statesOf image) 0) counted .1)
 
   pub block-of : (i : ℕ) → i < length image → Block image (i / 512)
-  block-of i l = right-block image (i / 512) (right .blocks (i / 512) (omega (arith, length-is)))
+  block-of i l = right-block image (i / 512) (faultless .blocks (i / 512) (omega (arith, length-is)))
 
   -- what is read
 
@@ -160,49 +148,40 @@ module _ (image : List ℕ) (bytes : (i : ℕ) → at image i < 256) (right : Ri
       → word (rowsOf image) q a ≡ 256 * at image (position 1 q (2 * a)) + at image (position 1 q (2 * a + 1))
   access-word q a l k = word-is q a l (omega arith) ∙ access-is q a k
 
+  -- of a state that there is, and of one that there is not
+  used-same : (q v i : ℕ) → (q < statesOf image → v ≡ at image i) → (statesOf image ≤ q → at image i ≡ 0)
+      → cond (ltb q (statesOf image)) v 0 ≡ at image i
+  used-same q v i there none = go (decLt q (statesOf image))
+    where
+      go : Dec (q < statesOf image) → cond (ltb q (statesOf image)) v 0 ≡ at image i
+      go (yes l) = rw (lt-ltb q (statesOf image) l) (there l)
+      go (no l) = let m : statesOf image ≤ q = omega arith in rw (le-ltb q (statesOf image) m) (sym (none m))
+
   fence-same : (q a i : ℕ) → i ≡ position 1 q (2 * a) → a < 4 → barredFence image q (at image i) ≡ false
       → cond (ltb q (statesOf image)) (word (rowsOf image) q a / 256) 0 ≡ at image i
-  fence-same q a i e k h = go (decLt q (statesOf image))
-    where
-      go : Dec (q < statesOf image) → cond (ltb q (statesOf image)) (word (rowsOf image) q a / 256) 0 ≡ at image i
-      go (yes l) =
-          rw (lt-ltb q (statesOf image) l)
-          (omega (arith, access-word q a l k, bytes (position 1 q (2 * a + 1)), ap (at image) e))
-      go (no l) =
-          let m : statesOf image ≤ q = omega arith in
-          rw (le-ltb q (statesOf image) m) (sym (fence-zero q (at image i) m h))
+  fence-same q a i e k h =
+      used-same q _ i (λ l. omega (arith, access-word q a l k, bytes (position 1 q (2 * a + 1)), ap (at image) e))
+      (λ m. fence-zero q (at image i) m h)
 
   next-same : (q a i : ℕ) (t : Bool) → i ≡ position 1 q (2 * a + 1) → a < 4 → leb (nextBelow image q t) (at image i) ≡ false
       → cond (ltb q (statesOf image)) (word (rowsOf image) q a % 256) 0 ≡ at image i
-  next-same q a i t e k h = go (decLt q (statesOf image))
-    where
-      go : Dec (q < statesOf image) → cond (ltb q (statesOf image)) (word (rowsOf image) q a % 256) 0 ≡ at image i
-      go (yes l) =
-          rw (lt-ltb q (statesOf image) l)
-          (omega (arith, access-word q a l k, bytes (position 1 q (2 * a + 1)), ap (at image) e))
-      go (no l) =
-          let m : statesOf image ≤ q = omega arith in
-          rw (le-ltb q (statesOf image) m) (sym (next-unused q (at image i) t m h))
+  next-same q a i t e k h =
+      used-same q _ i (λ l. omega (arith, access-word q a l k, bytes (position 1 q (2 * a + 1)), ap (at image) e))
+      (λ m. next-unused q (at image i) t m h)
 
   onward-same : (q f i : ℕ) → i ≡ position 1 q (8 + f) → f < 16
       → leb (nextBelow image q (ltb f (upstreamFencesOf image))) (at image i) ≡ false
       → cond (ltb q (statesOf image)) (word (rowsOf image) q (4 + f) % 256) 0 ≡ at image i
-  onward-same q f i e k h = go (decLt q (statesOf image)) (decLt f (upstreamFencesOf image))
+  onward-same q f i e k h =
+      used-same q _ i (λ l. there l (decLt f (upstreamFencesOf image))) (λ m. next-unused q (at image i) _ m h)
     where
-      go : Dec (q < statesOf image) → Dec (f < upstreamFencesOf image)
-          → cond (ltb q (statesOf image)) (word (rowsOf image) q (4 + f) % 256) 0 ≡ at image i
-      go (yes l) (yes m) =
-          rw (lt-ltb q (statesOf image) l)
-          (omega
-          (arith, word-is q (4 + f) l (omega arith) ∙ fence-is q f m, bytes (position 1 q (8 + f)), ap (at image) e))
-      go (yes l) (no m) =
+      there : q < statesOf image → Dec (f < upstreamFencesOf image) → word (rowsOf image) q (4 + f) % 256 ≡ at image i
+      there l (yes m) =
+          omega (arith, word-is q (4 + f) l (omega arith) ∙ fence-is q f m, bytes (position 1 q (8 + f)), ap (at image) e)
+      there l (no m) =
           let n : upstreamFencesOf image ≤ f = omega arith in
-          rw (lt-ltb q (statesOf image) l)
-          (omega
-          (arith, word-is q (4 + f) l (omega arith) ∙ absent-is q f n, next-nowhere q (at image i) _ l (le-ltb f (upstreamFencesOf image) n) h))
-      go (no l) m =
-          let n : statesOf image ≤ q = omega arith in
-          rw (le-ltb q (statesOf image) n) (sym (next-unused q (at image i) _ n h))
+          omega
+          (arith, word-is q (4 + f) l (omega arith) ∙ absent-is q f n, next-nowhere q (at image i) _ l (le-ltb f (upstreamFencesOf image) n) h)
 
   same-as : (i : ℕ) → i < length image → i % 512 < 510 → (place : Place) → Stands i place → barredAs image i (at image i) place ≡ false
       → valueAs (headerOf image) (rowsOf image) i place ≡ at image i
@@ -225,8 +204,8 @@ module _ (image : List ℕ) (bytes : (i : ℕ) → at image i < 256) (right : Ri
   unfolding valueAt
   value-same i l u = same-as i l u (standsAt 1 i) (stands i) (unbarred i l)
 
-  check-same-as : (i : ℕ) → i < length image → written-check (headerOf image) (rowsOf image) (i / 512) ≡ checkOf image (i / 512)
-  unfolding checkOf written-check
+  check-same-as : (i : ℕ) → i < length image → checkFor (headerOf image) (rowsOf image) (i / 512) ≡ checkOf image (i / 512)
+  unfolding checkOf checkFor
   check-same-as i l =
       check-same _ _ (λ p k. value-same (512 * (i / 512) + p) (omega (arith, block-of i l .whole)) (omega arith))
 

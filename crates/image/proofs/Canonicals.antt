@@ -16,13 +16,16 @@ use Rattle.layout.specs.declared.places.Place.{Place}
 use Rattle.image.specs.declared.machine.Header.{Header}
 use Rattle.layout.specs.Checksum.{twoBytes}
 use Rattle.layout.specs.Layout.{limit, blocksFor, standsAt, position}
-use Rattle.layout.specs.Barred.{wrong, checkOf, blockCount, wrongCount, barredFence, nextBelow, statesOf, upstreamFencesOf, targetFencesOf, barredAs, barred, verdictOf}
-use Rattle.image.specs.Image.{listed, word, half, used, valueAs, valueAt, byteAt, sizeOf, imageOf, headerOf, entryWord, rowsOf, AccessWord, Canonical}
+use Rattle.layout.specs.Barred.{wrong, checkOf, blockCount, wrongCount, barredFence, nextBelow, statesOf, upstreamFencesOf, targetFencesOf}
+use Rattle.layout.specs.Barred.{barredAs, barred, verdictOf}
+use Rattle.image.specs.Image.{listed, word, half, used, valueAs, valueAt, checkFor, byteAt, sizeOf, imageOf, headerOf, entryWord}
+use Rattle.image.specs.Image.{rowsOf, AccessWord, Canonical}
 use Rattle.image.proofs.Inverse.{all-nowhere}
 use Rattle.image.proofs.Fronts.{length-listed, at-listed, is-listed, front-whole}
 use Rattle.layout.proofs.Sums.{check-same}
-use Rattle.layout.proofs.Standing.{Stands, stands, number-at, fence-at, next-at, onward-at, upstream-at, target-at, within-image, entry-inside}
-use Rattle.image.proofs.Sealing.{byte-content, written-check, byte-high, byte-low}
+use Rattle.layout.specs.inner.Standing.{Stands}
+use Rattle.layout.proofs.Standing.{stands, number-at, fence-at, next-at, onward-at, upstream-at, target-at, within-image, entry-inside}
+use Rattle.image.proofs.Sealing.{byte-content, byte-high, byte-low}
 use Rattle.image.proofs.NameFields.{field-good}
 
 never : (t : Bool) → cond t false false ≡ false
@@ -44,9 +47,6 @@ module _ (h : Header) (rows : List ℕ) (can : Canonical h rows) where
   placed : (i : ℕ) (place : Place) → i < sizeOf h → i % 512 < 510 → standsAt 1 i ≡ place → at (imageOf h rows) i ≡ valueAs h rows i place
   unfolding valueAt
   placed i place l u e = value-image i l u ∙ ap (valueAs h rows i) e
-
-  header-size : 512 ≤ sizeOf h
-  header-size = omega arith
 
   way-image : at (imageOf h rows) 3 ≡ h .way
   unfolding standsAt
@@ -86,16 +86,17 @@ module _ (h : Header) (rows : List ℕ) (can : Canonical h rows) where
       placed (512 * b + 1) Place.Number (omega arith) (omega arith) (number-at (512 * b + 1) (omega arith))
       ∙ rw (ne-eqb ((512 * b + 1) % 2) 0 (λ e. omega arith), d)
 
-  check-image : (b : ℕ) → 512 * b + 512 ≤ sizeOf h → checkOf (imageOf h rows) b ≡ written-check h rows b
-  unfolding checkOf written-check
+  check-image : (b : ℕ) → 512 * b + 512 ≤ sizeOf h → checkOf (imageOf h rows) b ≡ checkFor h rows b
+  unfolding checkOf checkFor
   check-image b l = check-same _ _ (λ p k. value-image (512 * b + p) (omega arith) (omega arith))
 
   check-stored : (b : ℕ) → 512 * b + 512 ≤ sizeOf h
-      → twoBytes (at (imageOf h rows) (512 * b + 510)) (at (imageOf h rows) (512 * b + 510 + 1)) ≡ written-check h rows b
+      → twoBytes (at (imageOf h rows) (512 * b + 510)) (at (imageOf h rows) (512 * b + 510 + 1)) ≡ checkFor h rows b
   check-stored b l =
       let s : 512 * b + 510 + 1 ≡ 512 * b + 511 = omega arith in
-      omega
-      (arith, at-image (512 * b + 510) (omega arith) ∙ byte-high h rows b, ap (at (imageOf h rows)) s ∙ at-image (512 * b + 511) (omega arith) ∙ byte-low h rows b)
+      let high = at-image (512 * b + 510) (omega arith) ∙ byte-high h rows b in
+      let low = ap (at (imageOf h rows)) s ∙ at-image (512 * b + 511) (omega arith) ∙ byte-low h rows b in
+      omega (arith, high, low)
 
   no-wrong : (b : ℕ) → b < blockCount (imageOf h rows) → wrong (imageOf h rows) b ≡ false
   unfolding wrong
@@ -103,7 +104,8 @@ module _ (h : Header) (rows : List ℕ) (can : Canonical h rows) where
       let u : 512 * b + 512 ≤ sizeOf h = omega (arith, length-image) in
       rw (
         le-ltb (length (imageOf h rows)) (512 * b + 512) (omega (arith, length-image)),
-        eq-eqb (twoBytes (at (imageOf h rows) (512 * b)) (at (imageOf h rows) (512 * b + 1))) b (omega (arith, number-high b u, number-low b u)),
+        eq-eqb (twoBytes (at (imageOf h rows) (512 * b)) (at (imageOf h rows) (512 * b + 1))) b
+            (omega (arith, number-high b u, number-low b u)),
         eq-eqb (twoBytes (at (imageOf h rows) (512 * b + 510)) (at (imageOf h rows) (512 * b + 510 + 1))) (checkOf (imageOf h rows) b)
             (check-stored b u ∙ sym (check-image b u)),
       )
@@ -252,11 +254,13 @@ module _ (h : Header) (rows : List ℕ) (can : Canonical h rows) where
   -- what stands in a state's entry
   pub fence-image : (s a : ℕ) → s < h .states → a < 4 → at (imageOf h rows) (position 1 s (2 * a)) ≡ word rows s a / 256
   fence-image s a l m =
-      placed _ (Place.Fence s a) (within-image s (2 * a) (h .states) l (omega arith)) (entry-inside s (2 * a) (omega arith)) (fence-at s a m) ∙ used-image s _ l
+      placed _ (Place.Fence s a) (within-image s (2 * a) (h .states) l (omega arith)) (entry-inside s (2 * a) (omega arith)) (fence-at s a m)
+      ∙ used-image s _ l
 
   pub next-image : (s a : ℕ) → s < h .states → a < 4 → at (imageOf h rows) (position 1 s (2 * a + 1)) ≡ word rows s a % 256
   next-image s a l m =
-      placed _ (Place.Next s a) (within-image s (2 * a + 1) (h .states) l (omega arith)) (entry-inside s (2 * a + 1) (omega arith)) (next-at s a m) ∙ used-image s _ l
+      placed _ (Place.Next s a) (within-image s (2 * a + 1) (h .states) l (omega arith)) (entry-inside s (2 * a + 1) (omega arith)) (next-at s a m)
+      ∙ used-image s _ l
 
   pub onward-image : (s f : ℕ) → s < h .states → f < 16 → at (imageOf h rows) (position 1 s (8 + f)) ≡ word rows s (4 + f) % 256
   onward-image s f l m =

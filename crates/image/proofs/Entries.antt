@@ -1,4 +1,4 @@
--- Words read from an image. Assumes nothing.
+-- Words read from an image, by the tests of `entryWord`. Assumes nothing.
 use Prim.Native.Nat.{ℕ, _+_, _-_, _*_, _<_, _≤_}
 use mathlib.Core.Path.{_≡_, ap, ap₂, _∙_}
 use mathlib.Core.List.{List}

@@ -1,4 +1,4 @@
--- Lists that are filled from the front. Assumes nothing.
+-- Lists that are filled from the front, value by value: a list is known by its length and its values. Assumes nothing.
 use Prim.Native.Nat.{ℕ, zero, suc, _+_, _-_, _<_, _≤_}
 use mathlib.Core.Path.{_≡_, refl, sym, ap, subst, _∙_}
 use mathlib.Core.List.{List, [], _∷_, _++_}
@@ -9,7 +9,8 @@ use lib.ListN.{length, set, take, drop, length-append, length-set, length-drop, 
 use lib.Seq.{getD-set-same, getD-set-other, getD-at, getD-append-add, getD-drop, ext-getD, getD-take, length-take-le}
 use Rattle.ground.specs.Bytes.{at}
 use Rattle.answers.specs.Buffer.{bufferWith}
-use Rattle.image.specs.Image.{listed, Front, Filled}
+use Rattle.image.specs.Image.{listed}
+use Rattle.image.specs.inner.Filling.{Front, Filled}
 
 pub length-listed : (n : ℕ) (f : ℕ → ℕ) → length (listed n f) ≡ n
 unfolding listed
@@ -56,7 +57,8 @@ front-all {f} {n} {l} r e = is-listed n f l e (r .front)
 pub filled-none : (l : List ℕ) (f : ℕ → ℕ) → Filled l f 0 l
 filled-none l f = record { size = refl; front = front-none f l; rest = λ i h. refl }
 
-pub filled-more : {l : List ℕ} {f : ℕ → ℕ} {n : ℕ} {m : List ℕ} → Filled l f n m → (v : ℕ) → n < length m → v ≡ f n → Filled l f (n + 1) (set m n v)
+pub filled-more : {l : List ℕ} {f : ℕ → ℕ} {n : ℕ} {m : List ℕ} → Filled l f n m → (v : ℕ) → n < length m → v ≡ f n
+    → Filled l f (n + 1) (set m n v)
 filled-more {l} {f} {n} {m} r v h e =
     record {
       size = length-set m n v ∙ r .size;

@@ -1,6 +1,6 @@
 -- What a test that fails tells, and what a search that finds nothing. Assumes nothing.
 use Prim.Native.Nat.{ℕ, zero, suc, _+_, _<_, _≤_}
-use mathlib.Core.Path.{_≡_, refl, ap, subst, _∙_}
+use mathlib.Core.Path.{_≡_, refl, ap, _∙_}
 use mathlib.Core.Bool.{Bool, true, false, not, cond}
 use native.Mathlib.Decide.{ℕ-discrete}
 use native.Mathlib.Omega.{arith}
@@ -8,13 +8,10 @@ use borrow.Author.Tests.{eqb-true, not-false}
 use lib.Dec.{eqb}
 use Rattle.ground.specs.declared.Found.{Found}
 use Rattle.ground.specs.Lowest.{lowest}
-
-abbrev Is : Bool → Type 0
-Is true = Unit {0}
-Is false = ⊥
+use Rattle.ground.proofs.Truths.{differ}
 
 pub true-false : {A : Type 0} → true ≡ false → A
-true-false e = absurd (subst Is e tt)
+true-false e = differ (cc)
 
 -- no test passes of those that end a choice
 pub neither : (t : Bool) {x : Bool} → cond t true x ≡ false → (t ≡ false) × (x ≡ false)
@@ -28,10 +25,6 @@ chosen false e = true-false e
 pub equal : (a b : ℕ) → not (eqb a b) ≡ false → a ≡ b
 equal a b e = eqb-true a b (not-false (eqb a b) e)
 
-abbrev Somewhere : Found → Type 0
-Somewhere (Found.At k) = Unit {0}
-Somewhere Found.Nowhere = ⊥
-
 pub nowhere : (f : ℕ → Bool) (n k : ℕ) → lowest f k n ≡ Found.Nowhere → (j : ℕ) → k ≤ j → j < k + n → f j ≡ false
 unfolding lowest
 nowhere f zero k e j l u = absurd (omega arith)
@@ -39,7 +32,7 @@ nowhere f (suc n) k e j l u = at (f k) refl e (λ w m. nowhere f n (suc k) w j m
   where
     at : (t : Bool) → f k ≡ t → cond t (Found.At k) (lowest f (suc k) n) ≡ Found.Nowhere
         → (lowest f (suc k) n ≡ Found.Nowhere → suc k ≤ j → f j ≡ false) → f j ≡ false
-    at true h w rest = absurd (subst Somewhere w tt)
+    at true h w rest = differ (cc)
     at false h w rest = by (ℕ-discrete j k)
       where
         by : Dec (j ≡ k) → f j ≡ false

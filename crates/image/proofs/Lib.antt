@@ -9,3 +9,4 @@ pub mod NameFields
 pub mod Canonicals
 pub mod Theorems
 pub mod WrittenBack
+pub mod Unique

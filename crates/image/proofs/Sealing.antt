@@ -1,4 +1,4 @@
--- Blocks are filled, and then sealed with their checks. Assumes nothing.
+-- Blocks are filled, and then sealed with their checks: what is put at each byte is what the image of the machine has there. Assumes nothing.
 use Prim.Native.Nat.{ℕ, _+_, _*_, _/_, _%_, _<_, _≤_}
 use mathlib.Core.Path.{_≡_, sym, ap, subst, _∙_}
 use mathlib.Core.List.{List}
@@ -7,10 +7,10 @@ use native.Mathlib.Omega.{arith}
 use borrow.Author.Tests.{lt-ltb, le-ltb, eq-eqb, ne-eqb}
 use lib.ListN.{length, set, take, length-set}
 use Rattle.image.specs.declared.machine.Header.{Header}
-use Rattle.layout.specs.Checksum.{checksum}
 use Rattle.layout.specs.Layout.{blocksFor}
 use Rattle.layout.specs.Barred.{checkOf}
-use Rattle.image.specs.Image.{half, valueAt, byteAt, imageOf, sizeOf, sealed, Front}
+use Rattle.image.specs.Image.{half, valueAt, checkFor, byteAt, imageOf, sizeOf}
+use Rattle.image.specs.inner.Filling.{Front, sealed}
 use Rattle.layout.proofs.Sums.{check-same}
 use Rattle.image.proofs.Fronts.{front-more, front-whole}
 
@@ -19,18 +19,14 @@ module _ (h : Header) (rows : List ℕ) where
   unfolding byteAt
   byte-content i l = rw (lt-ltb _ _ l)
 
-  -- the check of a block by what is written to it
-  unfoldable pub written-check : ℕ → ℕ
-  written-check b = checksum 255 (λ (p : ℕ). valueAt h rows (512 * b + p))
-
-  pub byte-high : (b : ℕ) → byteAt h rows (512 * b + 510) ≡ written-check b / 256
-  unfolding byteAt half written-check
+  pub byte-high : (b : ℕ) → byteAt h rows (512 * b + 510) ≡ checkFor h rows b / 256
+  unfolding byteAt half
   byte-high b =
       let e : (512 * b + 510) / 512 ≡ b = omega arith in
       rw (le-ltb ((512 * b + 510) % 512) 510 (omega arith), eq-eqb ((512 * b + 510) % 2) 0 (omega arith), e)
 
-  pub byte-low : (b : ℕ) → byteAt h rows (512 * b + 511) ≡ written-check b % 256
-  unfolding byteAt half written-check
+  pub byte-low : (b : ℕ) → byteAt h rows (512 * b + 511) ≡ checkFor h rows b % 256
+  unfolding byteAt half
   byte-low b =
       let e : (512 * b + 511) / 512 ≡ b = omega arith in
       rw (le-ltb ((512 * b + 511) % 512) 510 (omega arith), ne-eqb ((512 * b + 511) % 2) 0 (λ w. omega arith), e)
@@ -43,8 +39,8 @@ module _ (h : Header) (rows : List ℕ) where
   contents-next b p v {image} r l k e =
       rw (← add-assoc (512 * b) p 1) (front-more r v k (e ∙ sym (byte-content (512 * b + p) (omega arith))))
 
-  pub check-of : (b : ℕ) {image : List ℕ} → Front (byteAt h rows) (512 * b + 510) image → checkOf image b ≡ written-check b
-  unfolding checkOf written-check
+  pub check-of : (b : ℕ) {image : List ℕ} → Front (byteAt h rows) (512 * b + 510) image → checkOf image b ≡ checkFor h rows b
+  unfolding checkOf checkFor
   check-of b r = check-same _ _ (λ p l. r .front (512 * b + p) (omega arith) ∙ byte-content (512 * b + p) (omega arith))
 
   pub sealed-front : (b : ℕ) {image : List ℕ} → Front (byteAt h rows) (512 * b + 510) image → 512 * b + 512 ≤ length image

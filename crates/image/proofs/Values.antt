@@ -1,4 +1,4 @@
--- What is written at a byte, by its place. Assumes nothing.
+-- What is put at a byte, by its place: of a state that there is, its word's byte; else 0. Assumes nothing.
 use Prim.Native.Nat.{ℕ, _<_, _≤_}
 use mathlib.Core.Path.{_≡_, sym, ap, _∙_}
 use mathlib.Core.List.{List}

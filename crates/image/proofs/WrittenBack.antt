@@ -1,4 +1,5 @@
--- What is read from an image is written back as the image itself. Assumes nothing.
+-- What is read from an image is written back as the image itself: writing what was read gives the bytes back, and the call's own rows have
+-- room. Assumes nothing.
 use Prim.Native.Nat.{ℕ, _*_, _<_, _≤_}
 use mathlib.Core.Path.{_≡_, refl, sym, ap, ap₂, _∙_}
 use mathlib.Core.List.{List, [], _∷_}
@@ -7,29 +8,29 @@ use borrow.Author.Tests.{le-leb}
 use lib.ListN.{length, take, drop, replicate, length-replicate}
 use lib.Seq.{take-at}
 use Rattle.ground.specs.Bytes.{at}
-use Rattle.answers.specs.Buffer.{bufferWith, answerWith}
+use Rattle.answers.specs.Buffer.{bufferWith}
 use Rattle.answers.specs.declared.Refusal.{Refusal}
 use Rattle.answers.specs.declared.Answer.{Answer}
-use Rattle.answers.specs.Given.{refuses, gives}
-use Rattle.answers.proofs.Given.{Answered, answered-same}
+use Rattle.answers.specs.Given.{gives, Delivers}
+use Rattle.answers.proofs.Given.{delivers-refusal, delivers-as}
 use Rattle.answers.specs.declared.Verdict.{Verdict}
 use Rattle.operations.specs.Alphabet.{stride}
 use Rattle.image.specs.declared.machine.Header.{Header}
 use Rattle.image.specs.declared.machine.Reading.{Reading}
 use Rattle.layout.specs.Barred.{statesOf, upstreamFencesOf, targetFencesOf, verdictOf}
-use Rattle.image.specs.Image.{imageOf, headerOf, rowsOf, readAs, rowsAs, readingOf, rowsAfter}
+use Rattle.image.specs.Image.{imageOf, headerOf, rowsOf, readAs, rowsAs, ReadsTo}
 use Rattle.image.specs.Calls.{backAs, writtenBack, headerAs}
 use Rattle.image.proofs.Readings.{length-rows}
-use Rattle.image.proofs.Theorems.{read-then-written}
+use Rattle.image.proofs.Theorems.{written-read}
 
 -- the call's own rows
 abbrev rows : List ℕ
-rows = replicate 5100 0
+rows = replicate (255 * stride) 0
 
 module _ (image : List ℕ) (bytes : (i : ℕ) → at image i < 256) where
   -- they have room for any machine, so that only the image is refused
   room : statesOf image * stride ≤ length rows
-  room = omega (arith, bytes 4, length-replicate {A = ℕ} 5100 0)
+  room = omega (arith, bytes 4, length-replicate {A = ℕ} (255 * stride) 0)
 
   verdict-kept : (v : Verdict) → readAs image (length rows) v .verdict ≡ v
   verdict-kept (Verdict.Refused why) = refl
@@ -44,45 +45,38 @@ module _ (image : List ℕ) (bytes : (i : ℕ) → at image i < 256) where
       rw (le-leb (length (rowsOf image)) (length rows) (omega (arith, length-rows image, room)))
       (take-at (rowsOf image) (drop (length (rowsOf image)) rows) (statesOf image * stride) (length-rows image))
 
-  module _ (r : Reading) (is : r ≡ readingOf image (length rows)) where
+  module _ (r : Reading) (rows′ : List ℕ) (reads : ReadsTo image rows r rows′) where
     verdict-is : r .verdict ≡ verdictOf image
-    unfolding readingOf
-    verdict-is = ap (λ (x : Reading). x .verdict) is ∙ verdict-kept (verdictOf image)
+    verdict-is = ap (λ (x : Reading). x .verdict) (reads .reading) ∙ verdict-kept (verdictOf image)
 
-    pub back-refused : (why : Refusal) (out : List ℕ) → r .verdict ≡ Verdict.Refused why
-        → Answered (writtenBack image) out (Answer.Refused why) out
+    pub back-refused : (why : Refusal) (out : List ℕ) → r .verdict ≡ Verdict.Refused why → Delivers (writtenBack image) out (Answer.Refused why) out
     unfolding writtenBack
-    back-refused why out v =
-        answered-same (refuses why) (writtenBack image) out _ _ (ap (backAs image) (sym v ∙ verdict-is)) (refl, refl)
+    back-refused why out v = delivers-as (ap (backAs image) (sym v ∙ verdict-is)) (delivers-refusal out)
 
     module _ (v : r .verdict ≡ Verdict.Accepted) where
       accepted : verdictOf image ≡ Verdict.Accepted
       accepted = sym verdict-is ∙ v
 
       header-is : r .header ≡ headerOf image
-      unfolding readingOf
-      header-is = ap (λ (x : Reading). x .header) is ∙ ap (λ (w : Verdict). readAs image (length rows) w .header) accepted ∙ accepted-header
+      header-is =
+          ap (λ (x : Reading). x .header) (reads .reading) ∙ ap (λ (w : Verdict). readAs image (length rows) w .header) accepted
+          ∙ accepted-header
 
       -- the image of the words that were read
-      same-image : (n : ℕ) (rows′ : List ℕ) → n ≡ r .header .states → rows′ ≡ rowsAfter image rows
-          → imageOf (r .header) (take (n * stride) rows′) ≡ image
-      unfolding rowsAfter headerOf
-      same-image n rows′ e w =
+      same-image : (n : ℕ) → n ≡ r .header .states → imageOf (r .header) (take (n * stride) rows′) ≡ image
+      unfolding headerOf
+      same-image n e =
           ap₂ imageOf header-is
           (ap₂ (λ (k : ℕ) (l : List ℕ). take (k * stride) l) (e ∙ ap (λ (h : Header). h .states) header-is)
-          (w ∙ ap (rowsAs image rows) accepted)
+          (reads .filled ∙ ap (rowsAs image rows) accepted)
           ∙ accepted-rows)
-          ∙ read-then-written image bytes accepted
+          ∙ written-read image bytes accepted
 
-      pub back-accepted : (n : ℕ) (rows′ out out′ : List ℕ) (a : Answer) → n ≡ r .header .states → rows′ ≡ rowsAfter image rows
-          → (a ≡ answerWith (imageOf (r .header) (take (n * stride) rows′)) 0 0 (length out))
-          × (out′ ≡ bufferWith (imageOf (r .header) (take (n * stride) rows′)) out)
-          → Answered (writtenBack image) out a out′
+      pub back-accepted : (n : ℕ) (out out′ : List ℕ) (a : Answer) → n ≡ r .header .states
+          → Delivers (gives (imageOf (r .header) (take (n * stride) rows′)) 0 0) out a out′ → Delivers (writtenBack image) out a out′
       unfolding writtenBack
-      back-accepted n rows′ out out′ a e w h =
-          let s = same-image n rows′ e w in
-          answered-same (gives image 0 0) (writtenBack image) out a out′ (ap (backAs image) (sym accepted))
-          (h .0 ∙ ap (λ (l : List ℕ). answerWith l 0 0 (length out)) s, h .1 ∙ ap (λ (l : List ℕ). bufferWith l out) s)
+      back-accepted n out out′ a e h =
+          delivers-as (ap (λ (l : List ℕ). gives l 0 0) (same-image n e) ∙ ap (backAs image) (sym accepted)) h
 
 -- the four numbers of an image that was written back
 pub header-told : (image : List ℕ) (a : Answer) (n fences state : ℕ) {way states ups targets : ℕ} → a ≡ Answer.Done n fences state

@@ -8,7 +8,7 @@ use mathlib.Core.Bool.{true, cond}
 use mathlib.Core.Logic.{_⊎_}
 use mathlib.Core.List.{List, [], _∷_, _++_}
 use lib.Dec.{leb, ltb, eqb}
-use lib.ListN.{length, set, replicate}
+use lib.ListN.{length, replicate}
 use Rattle.ground.specs.Bytes.{at, nameByte}
 use Rattle.answers.specs.Buffer.{bufferWith}
 use Rattle.answers.specs.declared.Refusal.{Refusal}
@@ -19,7 +19,7 @@ use Rattle.image.specs.declared.machine.Header.{Header}
 use Rattle.image.specs.declared.machine.Reading.{Reading}
 use Rattle.layout.specs.Checksum.{twoBytes, checksum}
 use Rattle.layout.specs.Layout.{accesses, blocksFor, standsAt, position}
-use Rattle.layout.specs.Barred.{checkOf, statesOf, upstreamFencesOf, targetFencesOf, verdictOf}
+use Rattle.layout.specs.Barred.{statesOf, upstreamFencesOf, targetFencesOf, verdictOf}
 
 -- the first n values of f
 unfoldable pub listed : ℕ → (ℕ → ℕ) → List ℕ
@@ -59,10 +59,12 @@ valueAs h rows i Place.Check = 0
 unfoldable pub valueAt : Header → List ℕ → ℕ → ℕ
 valueAt h rows i = valueAs h rows i (standsAt 1 i)
 
--- and the checks with it
+-- the check of block b, and every byte with the checks
+unfoldable pub checkFor : Header → List ℕ → ℕ → ℕ
+checkFor h rows b = checksum 255 (λ (p : ℕ). valueAt h rows (512 * b + p))
+
 unfoldable pub byteAt : Header → List ℕ → ℕ → ℕ
-byteAt h rows i =
-    cond (ltb (i % 512) 510) (valueAt h rows i) (half i (checksum 255 (λ (p : ℕ). valueAt h rows (512 * (i / 512) + p))))
+byteAt h rows i = cond (ltb (i % 512) 510) (valueAt h rows i) (half i (checkFor h rows (i / 512)))
 
 abbrev pub sizeOf : Header → ℕ
 sizeOf h = 512 * blocksFor 1 (h .states)
@@ -87,10 +89,14 @@ entryWord image s a =
     cond (ltb a (accesses 1)) (twoBytes (at image (position 1 s (2 * a))) (at image (position 1 s (2 * a + 1))))
     (cond (ltb (a - accesses 1) (upstreamFencesOf image)) (twoBytes 255 (at image (position 1 s (accesses 1 + a)))) 0)
 
-unfoldable pub rowsOf : List ℕ → List ℕ
-rowsOf image = listed (statesOf image * stride) (λ (j : ℕ). entryWord image (j / stride) (j % stride))
+-- word j of the rows, and all of them
+abbrev pub rowWord : List ℕ → ℕ → ℕ
+rowWord image j = entryWord image (j / stride) (j % stride)
 
--- what `read` answers, where rows have room for so many words, and the rows after it
+unfoldable pub rowsOf : List ℕ → List ℕ
+rowsOf image = listed (statesOf image * stride) (rowWord image)
+
+-- what `read` answers by the verdict on an image, where rows have room for so many words, and the rows after it
 
 abbrev pub noHeader : Header
 noHeader = record { way = 0; states = 0; ups = 0; targets = 0; upstream = replicate 16 0; target = replicate 16 0 }
@@ -108,11 +114,13 @@ abbrev pub rowsAs : List ℕ → List ℕ → Verdict → List ℕ
 rowsAs image rows (Verdict.Refused why) = rows
 rowsAs image rows Verdict.Accepted = bufferWith (rowsOf image) rows
 
-unfoldable pub readingOf : List ℕ → ℕ → Reading
-readingOf image room = readAs image room (verdictOf image)
+pub record ReadsAs (v : Verdict) (image rows : List ℕ) (r : Reading) (rows′ : List ℕ) : Type 0 where
+  pub reading : r ≡ readAs image (length rows) v
+  pub filled : rows′ ≡ rowsAs image rows v
 
-unfoldable pub rowsAfter : List ℕ → List ℕ → List ℕ
-rowsAfter image rows = rowsAs image rows (verdictOf image)
+-- what `read` promises: rows are the words before the call and rows′ those after it; r is the answer
+abbrev pub ReadsTo : List ℕ → List ℕ → Reading → List ℕ → Type 0
+ReadsTo image = ReadsAs (verdictOf image) image
 
 -- the machines that have an image
 
@@ -129,6 +137,11 @@ pub record NameField (field : List ℕ) : Type 0 where
 abbrev pub AccessWord : Header → ℕ → Type 0
 AccessWord h w = ((w / 256 ≡ 254) × (w % 256 ≡ 0)) ⊎ (((w / 256 < h .targets) ⊎ (w / 256 ≡ 255)) × (w % 256 < h .states))
 
+-- an upstream fence's word has FF for a fence byte
+abbrev pub FenceWord : Header → ℕ → Type 0
+FenceWord h w = (w / 256 ≡ 255) × (w % 256 < h .states)
+
+-- a machine of the layout
 pub record Canonical (h : Header) (rows : List ℕ) : Type 0 where
   pub way : h .way ≤ 1
   pub some : 0 < h .states
@@ -138,20 +151,12 @@ pub record Canonical (h : Header) (rows : List ℕ) : Type 0 where
   pub upstream : NameField (h .upstream)
   pub target : NameField (h .target)
   pub accesses : (s a : ℕ) → s < h .states → a < 4 → AccessWord h (word rows s a)
-  pub fences : (s f : ℕ) → s < h .states → f < h .ups → (word rows s (4 + f) / 256 ≡ 255) × (word rows s (4 + f) % 256 < h .states)
+  pub fences : (s f : ℕ) → s < h .states → f < h .ups → FenceWord h (word rows s (4 + f))
   pub absent : (s f : ℕ) → s < h .states → h .ups ≤ f → f < 16 → word rows s (4 + f) ≡ 0
 
--- the first n values of a list are those of f
-pub record Front (f : ℕ → ℕ) (n : ℕ) (l : List ℕ) : Type 0 where
-  pub fits : n ≤ length l
-  pub front : (i : ℕ) → i < n → at l i ≡ f i
-
--- a block with its check written to its end
-unfoldable pub sealed : List ℕ → ℕ → List ℕ
-sealed image b = set (set image (512 * b + 510) (checkOf image b / 256)) (512 * b + 511) (checkOf image b % 256)
-
--- n words of a list are those of f, and the rest is as it was
-pub record Filled (l : List ℕ) (f : ℕ → ℕ) (n : ℕ) (l′ : List ℕ) : Type 0 where
-  pub size : length l′ ≡ length l
-  pub front : Front f n l′
-  pub rest : (i : ℕ) → n ≤ i → at l′ i ≡ at l i
+-- an image of the layout: that of a machine of the layout
+pub record LaidOut (image : List ℕ) : Type 0 where
+  pub header : Header
+  pub rows : List ℕ
+  pub machine : Canonical header rows
+  pub image-of : imageOf header rows ≡ image

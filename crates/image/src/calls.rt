@@ -1,35 +1,33 @@
 // The call that reads an image and writes it back.
 ghost use mathlib.Core.Path.{_≡_};
-ghost use lib.ListN.{length};
 ghost use Rattle.ground.specs.Bytes.{at};
-ghost use Rattle.answers.specs.Given.{answerOf, bufferOf};
+ghost use Rattle.answers.specs.Given.{Delivers};
 ghost use Rattle.image.specs.Calls.{writtenBack, headerAs};
+use crate::machine::STRIDE;
+use crate::machine::WORDS;
 use crate::reader;
 use crate::writer;
 use answers::Answer;
 use answers::Verdict;
-use layout::checksum;
-use layout::verdict;
 
 fn write_back(image: &[u8], out: &mut [u8]) -> Answer
-    ensures answer { λ r. ⌜ r ≡ answerOf (writtenBack (now (image .entry))) (length (now (out .entry))) ⌝ }
-    ensures buffer { λ _. ⌜ now (out .exit) ≡ bufferOf (writtenBack (now (image .entry))) (now (out .entry)) ⌝ }
+    ensures { λ r. ⌜ Delivers (writtenBack (now (image .entry))) (now (out .entry)) r (now (out .exit)) ⌝ }
 {
-    let mut rows = [0u16; 5100];
+    let mut rows = [0u16; WORDS];
     let reading = reader::read(image, &mut rows);
     let verdict = reading.verdict;
     let header = reading.header;
     match verdict {
         Verdict::Refused(why) => Answer::Refused(why),
         Verdict::Accepted => {
-            let n = ground::wide(header.states) * 20;
+            let n = ground::wide(header.states) * STRIDE;
             writer::write(header, &rows[..n], out)
         }
     }
 }
 
-// A byte among the numbers of a header.
-fn number_at(image: &[u8], i: usize) -> u64
+// A number that a header tells: a byte of the image.
+fn header_number(image: &[u8], i: usize) -> u64
     ensures { λ r. ⌜ r ≡ at (now (image .entry)) i ⌝ }
 {
     ground::byte_at(image, i) as u64
@@ -45,10 +43,10 @@ fn header_of(image: &[u8], answer: Answer) -> [u64; 4]
             fences: _,
             state: _,
         } => [
-            number_at(image, 3),
-            number_at(image, 4),
-            number_at(image, 5),
-            number_at(image, 6),
+            header_number(image, 3),
+            header_number(image, 4),
+            header_number(image, 5),
+            header_number(image, 6),
         ],
         Answer::Refused(_) => [0, 0, 0, 0],
     }
@@ -56,9 +54,8 @@ fn header_of(image: &[u8], answer: Answer) -> [u64; 4]
 
 // Reads an image and writes it back; the header is told with it, zeros where refused.
 pub fn rewrite(image: &[u8], header: &mut [u64; 4], out: &mut [u8]) -> Answer
-    ensures answer { λ r. ⌜ r ≡ answerOf (writtenBack (now (image .entry))) (length (now (out .entry))) ⌝ }
-    ensures header { λ _. ⌜ now (header .exit) ≡ headerAs (now (image .entry)) (answerOf (writtenBack (now (image .entry))) (length (now (out .entry)))) ⌝ }
-    ensures buffer { λ _. ⌜ now (out .exit) ≡ bufferOf (writtenBack (now (image .entry))) (now (out .entry)) ⌝ }
+    ensures { λ r. ⌜ Delivers (writtenBack (now (image .entry))) (now (out .entry)) r (now (out .exit)) ⌝ }
+    ensures { λ r. ⌜ now (header .exit) ≡ headerAs (now (image .entry)) r ⌝ }
 {
     let answer = write_back(image, out);
     *header = header_of(image, answer);

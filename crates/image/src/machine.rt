@@ -1,6 +1,13 @@
-// A machine with its names, as an image holds it. The rows of its states are lent beside it: a word for each state and letter, twenty to a
-// state, 256 times the fence byte and the next state.
+// A machine with its names, as an image holds it. The rows of its states are lent beside it: a word for each state and letter, 256 times the
+// fence byte and the next state.
 use answers::Verdict;
+
+// How many letters are accesses; how many words a state has in rows; how many words the most states have.
+pub(crate) const ACCESSES: usize = 4;
+
+pub const STRIDE: usize = 20;
+
+pub const WORDS: usize = 255 * STRIDE;
 
 // Bytes, so that every header has an image. The names are filled up with zeros.
 pub struct Header {

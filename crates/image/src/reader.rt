@@ -4,9 +4,12 @@ ghost use mathlib.Core.Path.{_≡_};
 ghost use lib.ListN.{length};
 ghost use Rattle.ground.specs.Bytes.{at};
 ghost use Rattle.operations.specs.Alphabet.{stride};
-ghost use Rattle.image.specs.Image.{listed, headerOf, entryWord, refusedReading, readAs, rowsAs, readingOf, rowsAfter, Filled};
+ghost use Rattle.image.specs.Image.{listed, headerOf, entryWord, rowWord, refusedReading, ReadsAs, ReadsTo};
+ghost use Rattle.image.specs.inner.Filling.{Filled};
+use crate::machine::ACCESSES;
 use crate::machine::Header;
 use crate::machine::Reading;
+use crate::machine::STRIDE;
 use answers::Refusal;
 use answers::Verdict;
 use layout::places;
@@ -18,13 +21,13 @@ fn entry_word(image: &[u8], state: u8, letter: usize) -> u16
     ensures { λ r. ⌜ r ≡ entryWord (now (image .entry)) state letter ⌝ }
 {
     let entry = places::entry_start(state);
-    if letter < 4 {
+    if letter < ACCESSES {
         let fence = ground::number_at(image, entry + 2 * letter);
         let next = ground::number_at(image, entry + (2 * letter + 1));
         return (256 * fence + next) as u16;
     }
-    if letter - 4 < ground::number_at(image, 5) {
-        let next = ground::number_at(image, entry + (4 + letter));
+    if letter - ACCESSES < ground::number_at(image, 5) {
+        let next = ground::number_at(image, entry + (ACCESSES + letter));
         return (256 * 255 + next) as u16;
     }
     0
@@ -58,12 +61,12 @@ fn header(image: &[u8]) -> Header
 }
 
 fn fill_rows(image: &[u8], rows: &mut [u16], count: usize)
-    requires { ⌜ (count ≤ 5100) × (count ≤ length (now rows)) ⌝ }
-    ensures { λ _. ⌜ Filled (now (rows .entry)) (λ (j : ℕ). entryWord (now (image .entry)) (j / stride) (j % stride)) count (now (rows .exit)) ⌝ }
+    requires { ⌜ (count ≤ 255 * stride) × (count ≤ length (now rows)) ⌝ }
+    ensures { λ _. ⌜ Filled (now (rows .entry)) (rowWord (now (image .entry))) count (now (rows .exit)) ⌝ }
 {
     let mut j = 0;
     while j < count {
-        rows[j] = entry_word(image, (j / 20) as u8, j % 20);
+        rows[j] = entry_word(image, (j / STRIDE) as u8, j % STRIDE);
         j += 1;
     }
 }
@@ -87,10 +90,9 @@ fn refused(why: Refusal) -> Reading
 
 // Of an image that is accepted.
 fn read_accepted(image: &[u8], rows: &mut [u16]) -> Reading
-    ensures answer { λ r. ⌜ r ≡ readAs (now (image .entry)) (length (now (rows .entry))) Verdict.Accepted ⌝ }
-    ensures buffer { λ _. ⌜ now (rows .exit) ≡ rowsAs (now (image .entry)) (now (rows .entry)) Verdict.Accepted ⌝ }
+    ensures { λ r. ⌜ ReadsAs Verdict.Accepted (now (image .entry)) (now (rows .entry)) r (now (rows .exit)) ⌝ }
 {
-    let count = ground::number_at(image, 4) * 20;
+    let count = ground::number_at(image, 4) * STRIDE;
     if rows.len() < count {
         return refused(Refusal::BufferTooSmall);
     }
@@ -103,8 +105,7 @@ fn read_accepted(image: &[u8], rows: &mut [u16]) -> Reading
 
 // The machine of an image, its rows to the front of `rows`.
 pub fn read(image: &[u8], rows: &mut [u16]) -> Reading
-    ensures answer { λ r. ⌜ r ≡ readingOf (now (image .entry)) (length (now (rows .entry))) ⌝ }
-    ensures buffer { λ _. ⌜ now (rows .exit) ≡ rowsAfter (now (image .entry)) (now (rows .entry)) ⌝ }
+    ensures { λ r. ⌜ ReadsTo (now (image .entry)) (now (rows .entry)) r (now (rows .exit)) ⌝ }
 {
     let verdict = verdict::examine(image);
     match verdict {

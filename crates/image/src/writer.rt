@@ -2,19 +2,24 @@
 ghost use Prim.Native.Nat.{_+_, _*_, _/_, _%_, _^_, _<_};
 ghost use mathlib.Core.Path.{_≡_};
 ghost use lib.ListN.{length};
-ghost use Rattle.answers.specs.Buffer.{bufferWith, answerWith};
-ghost use Rattle.image.specs.Image.{word, half, used, sizeOf, valueAt, byteAt, imageOf, Front, sealed};
+ghost use Rattle.answers.specs.Given.{gives, Delivers};
+ghost use Rattle.layout.specs.Layout.{limit};
+ghost use Rattle.image.specs.Image.{word, half, used, sizeOf, valueAt, byteAt, imageOf};
+ghost use Rattle.image.specs.inner.Filling.{Front, sealed};
+use crate::machine::ACCESSES;
 use crate::machine::Header;
+use crate::machine::STRIDE;
 use answers::Answer;
 use layout::checksum;
 use layout::places;
 use layout::places::Place;
+use layout::verdict::LIMIT;
 
 fn word_at(rows: &[u16], state: usize, letter: usize) -> u16
     requires { ⌜ (state < 2 ^ 32) × (letter < 2 ^ 32) ⌝ }
     ensures { λ r. ⌜ r ≡ word (now (rows .entry)) state letter ⌝ }
 {
-    let i = state * 20 + letter;
+    let i = state * STRIDE + letter;
     if i < rows.len() { rows[i] } else { 0 }
 }
 
@@ -67,7 +72,7 @@ fn value_at(h: Header, rows: &[u16], i: usize) -> u8
         Place::TargetName(k) => h.target[k],
         Place::Fence(state, a) => fence_of(h, rows, state, a),
         Place::Next(state, a) => next_of(h, rows, state, a),
-        Place::FenceNext(state, f) => next_of(h, rows, state, 4 + f),
+        Place::FenceNext(state, f) => next_of(h, rows, state, ACCESSES + f),
         Place::Nothing => 0,
         Place::Check => 0,
     }
@@ -75,7 +80,7 @@ fn value_at(h: Header, rows: &[u16], i: usize) -> u8
 
 // Fills block b but for its check. The blocks below it are full.
 fn fill_contents(h: Header, rows: &[u16], image: &mut [u8], b: usize)
-    requires { ⌜ (b < 14) × (length (now image) ≡ 7168) ⌝ }
+    requires { ⌜ (b < 14) × (length (now image) ≡ limit) ⌝ }
     requires { ⌜ Front (byteAt h (now rows)) (512 * b) (now image) ⌝ }
     ensures { λ _. ⌜ Front (byteAt h (now (rows .entry))) (512 * b + 510) (now (image .exit)) ⌝ }
 {
@@ -88,7 +93,7 @@ fn fill_contents(h: Header, rows: &[u16], image: &mut [u8], b: usize)
 
 // Writes the check of block b.
 fn seal(image: &mut [u8], b: usize)
-    requires { ⌜ (b < 14) × (length (now image) ≡ 7168) ⌝ }
+    requires { ⌜ (b < 14) × (length (now image) ≡ limit) ⌝ }
     ensures { λ _. ⌜ now (image .exit) ≡ sealed (now (image .entry)) b ⌝ }
 {
     let check = checksum::block_check(image, b);
@@ -97,7 +102,7 @@ fn seal(image: &mut [u8], b: usize)
 }
 
 fn fill_block(h: Header, rows: &[u16], image: &mut [u8], b: usize)
-    requires { ⌜ (b < 14) × (length (now image) ≡ 7168) ⌝ }
+    requires { ⌜ (b < 14) × (length (now image) ≡ limit) ⌝ }
     requires { ⌜ Front (byteAt h (now rows)) (512 * b) (now image) ⌝ }
     ensures { λ _. ⌜ Front (byteAt h (now (rows .entry))) (512 * b + 512) (now (image .exit)) ⌝ }
 {
@@ -107,7 +112,7 @@ fn fill_block(h: Header, rows: &[u16], image: &mut [u8], b: usize)
 
 // Fills as many blocks as the states want.
 fn fill(h: Header, rows: &[u16], image: &mut [u8])
-    requires { ⌜ length (now image) ≡ 7168 ⌝ }
+    requires { ⌜ length (now image) ≡ limit ⌝ }
     ensures { λ _. ⌜ Front (byteAt h (now (rows .entry))) (sizeOf h) (now (image .exit)) ⌝ }
 {
     let count = places::blocks_for(h.states);
@@ -120,10 +125,9 @@ fn fill(h: Header, rows: &[u16], image: &mut [u8])
 
 // The image of a machine, or nothing where it does not fit.
 pub fn write(h: Header, rows: &[u16], out: &mut [u8]) -> Answer
-    ensures answer { λ r. ⌜ r ≡ answerWith (imageOf h (now (rows .entry))) 0 0 (length (now (out .entry))) ⌝ }
-    ensures buffer { λ _. ⌜ now (out .exit) ≡ bufferWith (imageOf h (now (rows .entry))) (now (out .entry)) ⌝ }
+    ensures { λ r. ⌜ Delivers (gives (imageOf h (now (rows .entry))) 0 0) (now (out .entry)) r (now (out .exit)) ⌝ }
 {
-    let mut image = [0u8; 7168];
+    let mut image = [0u8; LIMIT];
     fill(h, rows, &mut image);
     let n = 512 * places::blocks_for(h.states);
     answers::write_out(&image[..n], 0, 0, out)

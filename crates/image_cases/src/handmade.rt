@@ -1,6 +1,8 @@
 // Images of more states than any built-in pair has.
 use answers::Answer;
 use image::machine::Header;
+use image::machine::STRIDE;
+use image::machine::WORDS;
 
 fn word(fence: usize, next: usize) -> u16 {
     (fence % 256 * 256 + next % 256) as u16
@@ -27,15 +29,15 @@ fn word_at(states: usize, state: usize, letter: usize) -> u16 {
 fn fill(states: usize, rows: &mut [u16]) {
     let mut j = 0;
     while j < rows.len() {
-        rows[j] = word_at(states, j / 20, j % 20);
+        rows[j] = word_at(states, j / STRIDE, j % STRIDE);
         j += 1;
     }
 }
 
 // A machine of so many states, with names of sixteen bytes and sixteen fences on both sides.
-pub fn write(states: usize, out: &mut [u8]) -> Answer {
+pub(crate) fn write(states: usize, out: &mut [u8]) -> Answer {
     cases::repeat(b"#", out);
-    let mut rows = [0u16; 5100];
+    let mut rows = [0u16; WORDS];
     fill(states, &mut rows);
     let header = Header {
         way: 1,

@@ -5,18 +5,18 @@ use answers::Verdict;
 
 // Room for the longest output and a byte more, of a byte that tells what is kept. The large array stands in a function of its own, so that few
 // proofs hold it.
-pub fn marks() -> [u8; 8193]
+pub(crate) fn marks() -> [u8; 8193]
     ensures { λ r. ⌜ 8193 ≡ length r ⌝ }
 {
     [b'#'; 8193]
 }
 
 // Way, states, upstream fences, target fences.
-pub fn print_header(header: [u64; 4]) {
+pub(crate) fn print_header(header: [u64; 4]) {
     cases::print_numbers(&header);
 }
 
-pub fn print_same<'a>(image: &'a [u8], back: &'a [u8]) {
+pub(crate) fn print_same<'a>(image: &'a [u8], back: &'a [u8]) {
     if check::same(image, back) {
         io::write_all(1, b", the same,");
     } else {
@@ -53,13 +53,13 @@ fn crc(bytes: &[u8]) -> u32 {
     sum ^ 4294967295
 }
 
-pub fn print_crc(bytes: &[u8]) {
+pub(crate) fn print_crc(bytes: &[u8]) {
     io::write_all(1, b" ");
     io::print_hex(1, crc(bytes) as u64, 8);
 }
 
 // A short output, or the CRC of a long one.
-pub fn print_output(output: &[u8]) {
+pub(crate) fn print_output(output: &[u8]) {
     if output.len() < 32 {
         io::write_all(1, b" [");
         io::write_all(1, output);
@@ -76,7 +76,7 @@ fn print_check(high: u8, low: u8) {
 }
 
 // The check of each block.
-pub fn print_checks(image: &[u8]) {
+pub(crate) fn print_checks(image: &[u8]) {
     let mut at = 511;
     while at < image.len() {
         print_check(image[at - 1], image[at]);
@@ -88,7 +88,7 @@ fn wide(word: u16) -> u64 {
     word as u64
 }
 
-pub fn print_words(words: &[u16]) {
+pub(crate) fn print_words(words: &[u16]) {
     let mut i = 0;
     while i < words.len() {
         io::write_all(1, b" ");
@@ -97,7 +97,7 @@ pub fn print_words(words: &[u16]) {
     }
 }
 
-pub fn print_verdict(verdict: Verdict) {
+pub(crate) fn print_verdict(verdict: Verdict) {
     match verdict {
         Verdict::Accepted => {
             io::write_all(1, b"accepted");

@@ -21,7 +21,7 @@ fn rewrite(image: &[u8], room: usize) {
 }
 
 // An image that was made: the answer, whether the rest of the buffer is as it was, its checks, its CRC, and what writing it back gives.
-pub fn image(answer: Answer, buffer: &[u8]) {
+pub(crate) fn image(answer: Answer, buffer: &[u8]) {
     let image = cases::written(answer, buffer);
     cases::print_answer(answer);
     cases::print_kept(buffer, image.len());
@@ -33,7 +33,7 @@ pub fn image(answer: Answer, buffer: &[u8]) {
 }
 
 // Length, room.
-pub fn write_back(fields: &[u8], buffer: &[u8]) {
+pub(crate) fn write_back(fields: &[u8], buffer: &[u8]) {
     rewrite(cases::front(buffer, size(fields, 2)), size(fields, 3));
     io::write_all(1, b"\n");
 }
@@ -51,7 +51,7 @@ fn run<'a>(image: &'a [u8], start: u64, stream: &'a [u8], room: usize) {
 }
 
 // Start, the stream's length and what it repeats, room. Each of these images has 1,024 bytes.
-pub fn run_from(fields: &[u8], buffer: &[u8]) {
+pub(crate) fn run_from(fields: &[u8], buffer: &[u8]) {
     let mut stream = [0u8; 4097];
     cases::repeat(field(fields, 4), &mut stream);
     run(
@@ -63,7 +63,7 @@ pub fn run_from(fields: &[u8], buffer: &[u8]) {
 }
 
 // Length. The image is written back, and run over.
-pub fn both(fields: &[u8], buffer: &[u8]) {
+pub(crate) fn both(fields: &[u8], buffer: &[u8]) {
     let image = cases::front(buffer, size(fields, 2));
     rewrite(image, 7168);
     io::write_all(1, b"; run ");
@@ -79,7 +79,7 @@ fn read_words(image: &[u8], rows: &mut [u16]) {
 }
 
 // How many words the image is read into.
-pub fn read(fields: &[u8], buffer: &[u8]) {
+pub(crate) fn read(fields: &[u8], buffer: &[u8]) {
     let mut rows = [7u16; 61];
     let n = size(fields, 2);
     if n <= 61 {

@@ -2,3 +2,4 @@ pub mod Steps
 pub mod Runs
 pub mod Endings
 pub mod Theorems
+pub mod Unique

@@ -1,4 +1,4 @@
--- The steps of a run over an image. Assumes nothing.
+-- The steps of a run over an image, by the tests of their definitions. Assumes nothing.
 use Prim.Native.Nat.{ℕ, _+_, _*_, _<_, _≤_}
 use mathlib.Core.Path.{_≡_, sym, ap, ap₂, _∙_}
 use mathlib.Core.List.{List}
@@ -14,7 +14,9 @@ use Rattle.image_runs.specs.declared.Stop.{Stop}
 use Rattle.image_runs.specs.declared.Move.{Move}
 use Rattle.image_runs.specs.declared.Step.{Step}
 use Rattle.layout.specs.Layout.{entryStart, position}
-use Rattle.image_runs.specs.Run.{accessStep, stepAs, stepAt, Small}
+use Rattle.layout.specs.Barred.{upstreamFencesOf}
+use Rattle.image_runs.specs.Run.{accessStep, stepAs, stepAt}
+use Rattle.image_runs.specs.inner.Walking.{Small}
 
 module _ (fence next : ℕ) (small : next < 256) where
   pub step-refused : fence ≡ 254 → (Step.Stopped Stop.NoFenceWillDo ≡ accessStep fence next) × Unit {0}
@@ -31,8 +33,9 @@ module _ (fence next : ℕ) (small : next < 256) where
   )
 
 -- the entry of an access
-pub step-access : (image : List ℕ) (s : ℕ) (k : Kind) (a p f n : ℕ) (r : Step) → a ≡ letterOf k → p ≡ entryStart 1 s → f ≡ at image (p + 2 * a)
-    → n ≡ at image (p + 2 * a + 1) → (r ≡ accessStep f n) × Small r → (r ≡ stepAs image s (Byte.Is (Operation.Access k))) × Small r
+pub step-access : (image : List ℕ) (s : ℕ) (k : Kind) (a p f n : ℕ) (r : Step) → a ≡ letterOf k → p ≡ entryStart 1 s
+    → f ≡ at image (p + 2 * a) → n ≡ at image (p + 2 * a + 1) → (r ≡ accessStep f n) × Small r
+    → (r ≡ stepAs image s (Byte.Is (Operation.Access k))) × Small r
 step-access image s k a p f n r c e h l w =
     let o : p + 2 * a ≡ position 1 s (2 * letterOf k) = omega arith in
     let q : p + 2 * a + 1 ≡ position 1 s (2 * letterOf k + 1) = omega arith in (
@@ -40,7 +43,7 @@ step-access image s k a p f n r c e h l w =
       w .1,
     )
 
-module _ (image : List ℕ) (s f u : ℕ) (ups : u ≡ at image 5) where
+module _ (image : List ℕ) (s f u : ℕ) (ups : u ≡ upstreamFencesOf image) where
   pub step-no-fence : u ≤ f → (Step.Stopped Stop.NoSuchFence ≡ stepAs image s (Byte.Is (Operation.Fence f))) × Unit {0}
   step-no-fence l = (rw (← ups, le-ltb f u l), tt)
 

@@ -5,12 +5,11 @@
 -- operations; the earliest of 4, "a byte is no operation", 5, "the upstream model has no such fence", and 6, "no fence will do for the way",
 -- each at its index; 7 last.
 -- This says all that a run over an image does, for every image that is accepted.
-use Prim.Native.Nat.{ℕ, _+_, _*_, _<_, _≤_}
+use Prim.Native.Nat.{ℕ, _+_, _*_}
 use mathlib.Core.List.{List, [], _∷_, _++_}
-use mathlib.Core.Path.{_≡_}
 use mathlib.Core.Bool.{cond}
 use lib.Dec.{leb, ltb, eqb}
-use lib.ListN.{length, take}
+use lib.ListN.{length}
 use Rattle.ground.specs.Bytes.{at}
 use Rattle.answers.specs.Given.{Given, gives, refuses}
 use Rattle.answers.specs.declared.Refusal.{Refusal}
@@ -22,8 +21,6 @@ use Rattle.operations.specs.Alphabet.{letterOf}
 use Rattle.image_runs.specs.declared.Stop.{Stop}
 use Rattle.image_runs.specs.declared.Move.{Move}
 use Rattle.image_runs.specs.declared.Step.{Step}
-use Rattle.image_runs.specs.declared.Progress.{Progress}
-use Rattle.image_runs.specs.declared.Ending.{Ending}
 use Rattle.layout.specs.Layout.{accesses, position}
 use Rattle.layout.specs.Barred.{statesOf, upstreamFencesOf, verdictOf}
 
@@ -61,23 +58,28 @@ leads (Move.Plain t) = t
 leads (Move.Fenced x t) = t
 
 -- what a run gives: its output, the fences inserted and the end state; or why it stops, and the index of that byte
-pub data Ran : Type 0 where
-  ended : List ℕ → ℕ → ℕ → Ran
-  stopped : Stop → ℕ → Ran
+pub data Walked : Type 0 where
+  ended : List ℕ → ℕ → ℕ → Walked
+  stopped : Stop → ℕ → Walked
 
 -- k bytes further on, behind what they put out and the fences they inserted
-abbrev pub behind : ℕ → List ℕ → ℕ → Ran → Ran
-behind k put n (ended out m s) = ended (put ++ out) (n + m) s
-behind k put n (stopped why i) = stopped why (k + i)
+abbrev pub walkedOn : ℕ → List ℕ → ℕ → Walked → Walked
+walkedOn k put n (ended out m s) = ended (put ++ out) (n + m) s
+walkedOn k put n (stopped why i) = stopped why (k + i)
 
-abbrev pub resumed : ℕ → (ℕ → Ran) → Step → Ran
+abbrev pub resumed : ℕ → (ℕ → Walked) → Step → Walked
 resumed b rest (Step.Stopped why) = stopped why 0
-resumed b rest (Step.Taken m) = behind 1 (puts b m) (inserts m) (rest (leads m))
+resumed b rest (Step.Taken m) = walkedOn 1 (puts b m) (inserts m) (rest (leads m))
 
 -- the run of a stream from a state
-unfoldable pub ran : List ℕ → ℕ → List ℕ → Ran
-ran image s [] = ended [] 0 s
-ran image s (b ∷ rest) = resumed b (λ (t : ℕ). ran image t rest) (stepAt image s b)
+unfoldable pub walked : List ℕ → ℕ → List ℕ → Walked
+walked image s [] = ended [] 0 s
+walked image s (b ∷ rest) = resumed b (λ (t : ℕ). walked image t rest) (stepAt image s b)
+
+-- what a run gives, and then the run of a rest from where it ended; k is how many bytes the first had
+abbrev pub then : ℕ → Walked → (ℕ → Walked) → Walked
+then k (ended out n t) rest = walkedOn k out n (rest t)
+then k (stopped why i) rest = stopped why i
 
 -- what the call comes to before its buffer is looked at
 
@@ -86,7 +88,7 @@ refusalOf Stop.NoOperation i = Refusal.NoOperation i
 refusalOf Stop.NoSuchFence i = Refusal.NoSuchFence i
 refusalOf Stop.NoFenceWillDo i = Refusal.NoFenceWillDo i
 
-abbrev pub outcomeOf : Ran → Given
+abbrev pub outcomeOf : Walked → Given
 outcomeOf (ended out n s) = gives out n s
 outcomeOf (stopped why i) = refuses (refusalOf why i)
 
@@ -97,27 +99,9 @@ abbrev pub runAs : List ℕ → ℕ → List ℕ → Verdict → Given
 runAs image start stream (Verdict.Refused why) = refuses why
 runAs image start stream Verdict.Accepted =
     cond (ltb start (statesOf image))
-    (cond (leb (length stream) streamLimit) (outcomeOf (ran image start stream)) (refuses Refusal.OverLimit))
+    (cond (leb (length stream) streamLimit) (outcomeOf (walked image start stream)) (refuses Refusal.OverLimit))
     (refuses Refusal.OutOfRange)
 
 -- the run over an image
 unfoldable pub runOver : List ℕ → ℕ → List ℕ → Given
 runOver image start stream = runAs image start stream (verdictOf image)
-
--- where a step leads is a byte
-abbrev pub Small : Step → Type 0
-Small (Step.Taken m) = leads m < 256
-Small (Step.Stopped why) = Unit {0}
-
--- what a move for the byte b makes of a run's progress and of the bytes put out
-pub record Put (p : Progress) (b : ℕ) (m : Move) (room : List ℕ) (r : Progress) (room′ : List ℕ) : Type 0 where
-  pub size : length room′ ≡ length room
-  pub out : take (r .written) room′ ≡ take (p .written) room ++ puts b m
-  pub written : r .written ≡ p .written + length (puts b m)
-  pub fences : r .fences ≡ p .fences + inserts m
-  pub state : r .state ≡ leads m
-
--- the ending of a run whose output stands at the front of a list
-abbrev pub Ends : Ran → Ending → List ℕ → Type 0
-Ends r (Ending.Ended p) room = (p .written ≤ length room) × (r ≡ ended (take (p .written) room) (p .fences) (p .state))
-Ends r (Ending.Stopped why i) room = r ≡ stopped why i

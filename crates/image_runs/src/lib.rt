@@ -1,11 +1,12 @@
 // The run of a stream over an image.
-ghost use Prim.Native.Nat.{_+_, _^_, _<_, _≤_};
+ghost use Prim.Native.Nat.{_+_, _*_, _^_, _<_, _≤_};
 ghost use mathlib.Core.Path.{_≡_};
 ghost use lib.ListN.{length};
-ghost use Rattle.answers.specs.Given.{answerOf, bufferOf};
+ghost use Rattle.answers.specs.Given.{Delivers};
 ghost use Rattle.operations.specs.declared.Byte.{Byte};
 ghost use Rattle.operations.specs.declared.Operation.{Operation};
-ghost use Rattle.image_runs.specs.Run.{accessStep, stepAs, stepAt, ran, refusalOf, outcomeOf, runAs, runOver, Small, Put, Ends};
+ghost use Rattle.image_runs.specs.Run.{accessStep, stepAs, stepAt, walked, refusalOf, outcomeOf, streamLimit, runAs, runOver};
+ghost use Rattle.image_runs.specs.inner.Walking.{Small, Moved, Ends};
 use answers::Answer;
 use answers::Refusal;
 use answers::Verdict;
@@ -15,6 +16,9 @@ use operations::Byte;
 use operations::Kind;
 use operations::Operation;
 use operations::alphabet;
+
+// The limit of a stream.
+const LIMIT: usize = 4096;
 
 // Why a run stops.
 pub enum Stop {
@@ -106,7 +110,7 @@ pub enum Ending {
 // Puts out what a move puts out for a byte.
 fn put(p: Progress, byte: u8, taken: Move, room: &mut [u8]) -> Progress
     requires { ⌜ (p .written + 2 ≤ length (now room)) × (p .fences < 2 ^ 32) ⌝ }
-    ensures { λ r. ⌜ Put p byte taken (now (room .entry)) r (now (room .exit)) ⌝ }
+    ensures { λ r. ⌜ Moved p byte taken (now (room .entry)) r (now (room .exit)) ⌝ }
 {
     let at = p.written;
     match taken {
@@ -137,8 +141,8 @@ fn put(p: Progress, byte: u8, taken: Move, room: &mut [u8]) -> Progress
 
 // The run from a state, its output to the front of `room`.
 fn run_all<'a>(image: &'a [u8], start: usize, stream: &'a [u8], room: &mut [u8]) -> Ending
-    requires { ⌜ (start < 256) × (length (now stream) ≤ 4096) × (length (now room) ≡ 8192) ⌝ }
-    ensures { λ r. ⌜ Ends (ran (now (image .entry)) start (now (stream .entry))) r (now (room .exit)) ⌝ }
+    requires { ⌜ (start < 256) × (length (now stream) ≤ streamLimit) × (length (now room) ≡ 2 * streamLimit) ⌝ }
+    ensures { λ r. ⌜ Ends (walked (now (image .entry)) start (now (stream .entry))) r (now (room .exit)) ⌝ }
 {
     let mut p = Progress {
         written: 0,
@@ -172,11 +176,10 @@ fn refusal(why: Stop, i: usize) -> Refusal
 
 // The output is made apart, so that a refused run writes nothing.
 fn run_from<'a>(image: &'a [u8], start: usize, stream: &'a [u8], out: &mut [u8]) -> Answer
-    requires { ⌜ (start < 256) × (length (now stream) ≤ 4096) ⌝ }
-    ensures answer { λ r. ⌜ r ≡ answerOf (outcomeOf (ran (now (image .entry)) start (now (stream .entry)))) (length (now (out .entry))) ⌝ }
-    ensures buffer { λ _. ⌜ now (out .exit) ≡ bufferOf (outcomeOf (ran (now (image .entry)) start (now (stream .entry)))) (now (out .entry)) ⌝ }
+    requires { ⌜ (start < 256) × (length (now stream) ≤ streamLimit) ⌝ }
+    ensures { λ r. ⌜ Delivers (outcomeOf (walked (now (image .entry)) start (now (stream .entry)))) (now (out .entry)) r (now (out .exit)) ⌝ }
 {
-    let mut room = [0u8; 8192];
+    let mut room = [0u8; 2 * LIMIT];
     let ending = run_all(image, start, stream, &mut room);
     match ending {
         Ending::Stopped(why, i) => Answer::Refused(refusal(why, i)),
@@ -189,14 +192,13 @@ fn run_from<'a>(image: &'a [u8], start: usize, stream: &'a [u8], out: &mut [u8])
 
 // Over an image that is accepted.
 fn run_accepted<'a>(image: &'a [u8], start: u64, stream: &'a [u8], out: &mut [u8]) -> Answer
-    ensures answer { λ r. ⌜ r ≡ answerOf (runAs (now (image .entry)) start (now (stream .entry)) Verdict.Accepted) (length (now (out .entry))) ⌝ }
-    ensures buffer { λ _. ⌜ now (out .exit) ≡ bufferOf (runAs (now (image .entry)) start (now (stream .entry)) Verdict.Accepted) (now (out .entry)) ⌝ }
+    ensures { λ r. ⌜ Delivers (runAs (now (image .entry)) start (now (stream .entry)) Verdict.Accepted) (now (out .entry)) r (now (out .exit)) ⌝ }
 {
     let states = ground::number_at(image, 4);
     if states as u64 <= start {
         return Answer::Refused(Refusal::OutOfRange);
     }
-    if 4096 < stream.len() {
+    if LIMIT < stream.len() {
         return Answer::Refused(Refusal::OverLimit);
     }
     run_from(image, start as usize, stream, out)
@@ -204,8 +206,7 @@ fn run_accepted<'a>(image: &'a [u8], start: u64, stream: &'a [u8], out: &mut [u8
 
 // Runs a stream over an image from a state.
 pub fn run<'a>(image: &'a [u8], start: u64, stream: &'a [u8], out: &mut [u8]) -> Answer
-    ensures answer { λ r. ⌜ r ≡ answerOf (runOver (now (image .entry)) start (now (stream .entry))) (length (now (out .entry))) ⌝ }
-    ensures buffer { λ _. ⌜ now (out .exit) ≡ bufferOf (runOver (now (image .entry)) start (now (stream .entry))) (now (out .entry)) ⌝ }
+    ensures { λ r. ⌜ Delivers (runOver (now (image .entry)) start (now (stream .entry))) (now (out .entry)) r (now (out .exit)) ⌝ }
 {
     let verdict = verdict::examine(image);
     match verdict {

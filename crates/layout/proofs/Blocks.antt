@@ -1,4 +1,4 @@
--- Which blocks are wrong. Assumes nothing.
+-- Which blocks are wrong: broken off, by number, by check, as the definition's tests have it. Assumes nothing.
 use Prim.Native.Nat.{ℕ, _+_, _*_, _/_, _<_, _≤_}
 use mathlib.Core.Path.{_≡_, sym, ap₂, _∙_}
 use mathlib.Core.Bool.{true, not}

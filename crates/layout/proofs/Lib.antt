@@ -1,6 +1,5 @@
 pub mod Tests
 pub mod Sums
-pub mod Lowest
 pub mod Blocks
 pub mod Names
 pub mod Standing

@@ -1,13 +1,40 @@
--- Barred bytes of a name, and the numbers that next states stay below. Assumes nothing.
-use Prim.Native.Nat.{ℕ, _+_, _<_, _≤_}
+-- Barred bytes of a name, where a walk downwards looks for its end; the numbers that next states stay below; fence bytes. Each by the tests that
+-- its definition chooses by. Assumes nothing.
+use Prim.Native.Nat.{ℕ, zero, suc, _+_, _-_, _<_, _≤_}
 use mathlib.Core.Path.{_≡_, sym, ap, _∙_}
 use mathlib.Core.Bool.{Bool, true, false}
 use mathlib.Core.List.{List}
+use native.Mathlib.Omega.{arith}
 use borrow.Author.Tests.{lt-ltb, le-ltb, le-leb, lt-leb, eq-eqb, ne-eqb}
 use lib.Dec.{leb, ltb, eqb}
 use Rattle.ground.specs.Bytes.{at, nameByte}
-use Rattle.layout.specs.Barred.{ended, barredName, barredFence, nextBelow}
+use Rattle.layout.specs.Barred.{ended, statesOf, targetFencesOf, barredName, barredFence, nextBelow}
 
+-- a walk downwards: whether a zero stands among the first k bytes of a name is whether it does among the first j
+module _ (image : List ℕ) (from k : ℕ) where
+  below : (m b : ℕ) → b ≡ at image (from + (suc m - 1)) → at image (from + m) ≡ b
+  below m b e = let s : suc m - 1 ≡ m = omega arith in sym (e ∙ ap (λ (x : ℕ). at image (from + x)) s)
+
+  pub ended-here : (j b : ℕ) → ended image from k ≡ ended image from j → 0 < j → b ≡ at image (from + (j - 1)) → b ≡ 0
+      → true ≡ ended image from k
+  unfolding ended
+  ended-here zero b h l e z = absurd (omega arith)
+  ended-here (suc m) b h l e z = sym (h ∙ rw (eq-eqb _ _ (below m b e ∙ z)))
+
+  pub ended-on : (j b : ℕ) → ended image from k ≡ ended image from j → 0 < j → b ≡ at image (from + (j - 1)) → (b ≡ 0 → ⊥)
+      → ended image from k ≡ ended image from (j - 1)
+  unfolding ended
+  ended-on zero b h l e z = absurd (omega arith)
+  ended-on (suc m) b h l e z =
+      let s : suc m - 1 ≡ m = omega arith in
+      h ∙ rw (ne-eqb _ _ (λ w. z (sym (below m b e) ∙ w)), s)
+
+  pub ended-none : (j : ℕ) → ended image from k ≡ ended image from j → j ≤ 0 → false ≡ ended image from k
+  unfolding ended
+  ended-none zero h l = sym h
+  ended-none (suc m) h l = absurd (omega arith)
+
+-- the bytes of a name
 module _ (image : List ℕ) (from k b : ℕ) (byte : b ≡ at image (from + k)) where
   pub name-zero : b ≡ 0 → eqb k 0 ≡ barredName image from k
   unfolding barredName
@@ -21,7 +48,8 @@ module _ (image : List ℕ) (from k b : ℕ) (byte : b ≡ at image (from + k)) 
   unfolding barredName
   name-bad t z e g = rw (ne-eqb _ _ (λ w. z (byte ∙ w)), sym (e ∙ ap nameByte byte) ∙ g)
 
-module _ (image : List ℕ) (state n : ℕ) (leads : Bool) (states : n ≡ at image 4) where
+-- the numbers that next states stay below
+module _ (image : List ℕ) (state n : ℕ) (leads : Bool) (states : n ≡ statesOf image) where
   pub next-unused : n ≤ state → 1 ≡ nextBelow image state leads
   unfolding nextBelow
   next-unused h = rw (← states, le-ltb _ _ h)
@@ -35,12 +63,12 @@ module _ (image : List ℕ) (state n : ℕ) (leads : Bool) (states : n ≡ at im
   next-zero h l = rw (← states, lt-ltb _ _ h, l)
 
 -- fence bytes
-module _ (image : List ℕ) (state value n : ℕ) (states : n ≡ at image 4) where
+module _ (image : List ℕ) (state value n : ℕ) (states : n ≡ statesOf image) where
   pub fence-unused : n ≤ state → leb 1 value ≡ barredFence image state value
   unfolding barredFence
   fence-unused h = rw (← states, le-ltb _ _ h)
 
-  module _ (m : ℕ) (targets : m ≡ at image 6) where
+  module _ (m : ℕ) (targets : m ≡ targetFencesOf image) where
     pub fence-high : state < n → m ≤ value → ltb value 254 ≡ barredFence image state value
     unfolding barredFence
     fence-high h l = rw (← states, ← targets, lt-ltb _ _ h, le-leb _ _ l)

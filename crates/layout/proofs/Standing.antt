@@ -1,4 +1,4 @@
--- What stands where: from a byte's index to its place, and back. Assumes nothing.
+-- What stands where: from a byte's index to its place, and back, by the tests of `standsAt`. Assumes nothing.
 use Prim.Native.Nat.{ℕ, _+_, _-_, _*_, _/_, _%_, _<_, _≤_}
 use mathlib.Core.Path.{_≡_, refl, sym, ap₂, subst, _∙_}
 use mathlib.Core.Bool.{Bool, true, false, cond}
@@ -9,24 +9,9 @@ use borrow.Author.Tests.{lt-ltb, le-ltb, eq-eqb, ne-eqb, ltb-true, ltb-false, eq
 use lib.Dec.{ltb, eqb}
 use Rattle.ground.specs.Bytes.{at}
 use Rattle.layout.specs.declared.places.Place.{Place}
+use Rattle.layout.specs.inner.Standing.{Stands}
 use Rattle.layout.specs.Barred.{barredAs, barred}
 use Rattle.layout.specs.Layout.{blocksFor, position, headerPlace, entryPlace, standsAt}
-
--- byte i is of this place
-abbrev pub Stands : ℕ → Place → Type 0
-Stands i Place.Number = i % 512 < 2
-Stands i Place.Form = i ≡ 2
-Stands i Place.Way = i ≡ 3
-Stands i Place.States = i ≡ 4
-Stands i Place.UpstreamFences = i ≡ 5
-Stands i Place.TargetFences = i ≡ 6
-Stands i (Place.UpstreamName k) = (i ≡ 7 + k) × (k < 16)
-Stands i (Place.TargetName k) = (i ≡ 23 + k) × (k < 16)
-Stands i (Place.Fence s a) = (i ≡ position 1 s (2 * a)) × (a < 4)
-Stands i (Place.Next s a) = (i ≡ position 1 s (2 * a + 1)) × (a < 4)
-Stands i (Place.FenceNext s f) = (i ≡ position 1 s (8 + f)) × (f < 16)
-Stands i Place.Nothing = (2 ≤ i % 512) × (i % 512 < 510)
-Stands i Place.Check = 510 ≤ i % 512
 
 pub by-test : {A : Type 0} (P : A → Type 0) (t : Bool) (x y : A) → (t ≡ true → P x) → (t ≡ false → P y) → P (cond t x y)
 by-test P true x y f g = f refl
@@ -116,7 +101,8 @@ onward-at s f l =
     entry-at s (8 + f) (omega arith) ∙ rw (le-ltb (8 + f) 8 (omega arith), h)
 
 -- what stands behind the five numbers of block 0
-name-at : (i : ℕ) → 7 ≤ i → i < 39 → standsAt 1 i ≡ cond (ltb i 23) (Place.UpstreamName (i - 7)) (cond (ltb i 39) (Place.TargetName (i - 23)) Place.Nothing)
+name-at : (i : ℕ) → 7 ≤ i → i < 39
+    → standsAt 1 i ≡ cond (ltb i 23) (Place.UpstreamName (i - 7)) (cond (ltb i 39) (Place.TargetName (i - 23)) Place.Nothing)
 unfolding standsAt
 name-at i l u =
     let b : i / 512 ≡ 0 = omega arith in

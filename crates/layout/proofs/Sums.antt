@@ -1,4 +1,4 @@
--- One's complement sums. Assumes nothing.
+-- One's complement sums: one word more, and equal words have equal sums. Assumes nothing.
 use Prim.Native.Nat.{ℕ, zero, suc, _+_, _-_, _*_, _<_}
 use mathlib.Core.Path.{_≡_, refl, sym, ap, ap₂, _∙_}
 use mathlib.Core.List.{List}

@@ -1,7 +1,5 @@
--- What `search` needs besides, where a definition chooses by tests: of `<`, or of `≤`. Assumes nothing.
+-- What `search` needs besides, where a definition chooses by tests. Assumes nothing.
 use borrow.Author.Needs.{needs}
-use borrow.Author.Tests.{lt-ltb, le-ltb, le-leb, lt-leb, eq-eqb, ne-eqb}
+use borrow.Author.Tests.{lt-ltb, le-ltb, eq-eqb, ne-eqb}
 
 pub ruleset tests = (lt-ltb, le-ltb, eq-eqb, ne-eqb, needs)
-
-pub ruleset tests≤ = (le-leb, lt-leb, eq-eqb, ne-eqb, needs)

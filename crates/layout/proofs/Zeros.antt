@@ -8,12 +8,13 @@ use borrow.Author.Tests.{lt-leb, ltb-true}
 use lib.Dec.{ltb, leb}
 use lib.ListN.{length}
 use Rattle.ground.proofs.Lowest.{lowest-on, lowest-step}
-use Rattle.ground.specs.Lowest.{lowest}
 use Rattle.ground.specs.Bytes.{at}
 use Rattle.layout.specs.declared.places.Place.{Place}
 use Rattle.layout.specs.Layout.{standsAt}
-use Rattle.layout.specs.Barred.{statesOf, targetFencesOf, nextBelow, barredFence, barredAs, barred, Skips}
-use Rattle.layout.proofs.Standing.{Stands, stands, by-test}
+use Rattle.layout.specs.Barred.{statesOf, targetFencesOf, nextBelow, barredFence, barredAs, barred, lowestBarred}
+use Rattle.layout.specs.inner.Skipping.{barredFrom, Skips}
+use Rattle.layout.specs.inner.Standing.{Stands}
+use Rattle.layout.proofs.Standing.{stands, by-test}
 
 module _ (image : List ℕ) where
   -- nothing is below 0, whatever a next state must stay below
@@ -22,7 +23,9 @@ module _ (image : List ℕ) where
   next-zero state leads =
       by-test (λ (n : ℕ). leb n 0 ≡ false) (ltb state (statesOf image)) _ _
       (λ h.
-      by-test (λ (n : ℕ). leb n 0 ≡ false) leads _ _ (λ w. lt-leb (statesOf image) 0 (omega (arith, ltb-true state (statesOf image) h))) (λ w. refl))
+      by-test (λ (n : ℕ). leb n 0 ≡ false) leads _ _
+      (λ w. lt-leb (statesOf image) 0 (omega (arith, ltb-true state (statesOf image) h)))
+      (λ w. refl))
       (λ h. refl)
 
   module _ (fence : 0 < targetFencesOf image) where
@@ -31,7 +34,7 @@ module _ (image : List ℕ) where
     fence-zero state =
         by-test (λ (b : Bool). b ≡ false) (ltb state (statesOf image)) _ _ (λ h. rw (lt-leb _ _ fence)) (λ h. refl)
 
-    module _ (i : ℕ) (behind : 39 ≤ i) where
+    module _ (i : ℕ) (past : 39 ≤ i) where
       by-place : (place : Place) → Stands i place → barredAs image i 0 place ≡ false
       by-place Place.Number s = refl
       by-place Place.Check s = refl
@@ -55,17 +58,18 @@ pub skips-none : (image : List ℕ) (from : ℕ) → Skips image from from
 skips-none image from = record { forward = omega arith; lowest-same = refl }
 
 -- over one zero more
-pub skips-zero : (image : List ℕ) (from i : ℕ) → 0 < targetFencesOf image → 39 ≤ from → Skips image from i → i < length image → at image i ≡ 0
-    → Skips image from (i + 1)
-skips-zero image from i fence behind s l z =
+pub skips-zero : (image : List ℕ) (from i : ℕ) → 0 < targetFencesOf image → 39 ≤ from → Skips image from i → i < length image
+    → at image i ≡ 0 → Skips image from (i + 1)
+skips-zero image from i fence past s l z =
     record {
       forward = omega (arith, s .forward);
-      lowest-same = s .lowest-same ∙ lowest-step (barred image) (length image) i l (zero-kept image fence i (omega (arith, s .forward)) z);
+      lowest-same =
+          s .lowest-same ∙ lowest-step (barred image) (length image) i l (zero-kept image fence i (omega (arith, s .forward)) z);
     }
 
 -- behind a byte that is not barred
-pub skips-on : (image : List ℕ) (i r : ℕ) → lowest (barred image) 0 (length image) ≡ lowest (barred image) i (length image - i) → i < length image
-    → barred image i ≡ false → Skips image (i + 1) r → lowest (barred image) 0 (length image) ≡ lowest (barred image) r (length image - r)
+pub skips-on : (image : List ℕ) (i r : ℕ) → lowestBarred image ≡ barredFrom image i → i < length image → barred image i ≡ false
+    → Skips image (i + 1) r → lowestBarred image ≡ barredFrom image r
 skips-on image i r h l b s = lowest-on (barred image) (length image) i h l b ∙ s .lowest-same
 
 pub some-fence : {targets : ℕ} (image : List ℕ) → targets ≡ targetFencesOf image → (targets ≡ 0 → ⊥) → 0 < targetFencesOf image

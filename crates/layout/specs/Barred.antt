@@ -4,8 +4,7 @@
 -- "In a name field the barred bytes are a first byte of zero, a nonzero byte that no name may hold, and any byte other than zero after a zero.
 -- The stored check must equal the computed one exactly."
 -- Each byte has its own rule; it may trust bytes 2 to 6, since where one of those is barred it is the lower.
-use Prim.Native.Nat.{ℕ, zero, suc, _+_, _-_, _*_, _/_, _≤_, max}
-use mathlib.Core.Path.{_≡_}
+use Prim.Native.Nat.{ℕ, zero, suc, _+_, _-_, _*_, _/_, max}
 use mathlib.Core.Bool.{Bool, true, false, not, cond}
 use mathlib.Core.List.{List}
 use lib.Dec.{leb, ltb, eqb}
@@ -89,12 +88,14 @@ barredAs image i v (Place.FenceNext state f) = leb (nextBelow image state (ltb f
 unfoldable pub barred : List ℕ → ℕ → Bool
 barred image i = barredAs image i (at image i) (standsAt 1 i)
 
--- nothing barred stands from one byte up to another, so that the lowest from the one is the lowest from the other
-pub record Skips (image : List ℕ) (from to : ℕ) : Type 0 where
-  pub forward : from ≤ to
-  pub lowest-same : lowest (barred image) from (length image - from) ≡ lowest (barred image) to (length image - to)
+-- the lowest wrong block and the lowest barred byte
+abbrev pub lowestWrong : List ℕ → Found
+lowestWrong image = lowest (wrong image) 0 (blockCount image)
 
--- by the lowest wrong block and the lowest barred byte
+abbrev pub lowestBarred : List ℕ → Found
+lowestBarred image = lowest (barred image) 0 (length image)
+
+-- the verdict by these two
 abbrev pub stages : Found → Found → Verdict
 stages (Found.At b) byte = Verdict.Refused (Refusal.BrokenBlock b)
 stages Found.Nowhere (Found.At i) = Verdict.Refused (Refusal.BarredValue i)
@@ -102,5 +103,4 @@ stages Found.Nowhere Found.Nowhere = Verdict.Accepted
 
 unfoldable pub verdictOf : List ℕ → Verdict
 verdictOf image =
-    cond (ltb limit (length image)) (Verdict.Refused Refusal.OverLimit)
-    (stages (lowest (wrong image) 0 (blockCount image)) (lowest (barred image) 0 (length image)))
+    cond (ltb limit (length image)) (Verdict.Refused Refusal.OverLimit) (stages (lowestWrong image) (lowestBarred image))

@@ -1,3 +1,4 @@
 pub mod Checksum
 pub mod Layout
 pub mod Barred
+pub mod inner

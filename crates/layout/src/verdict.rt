@@ -7,7 +7,9 @@ ghost use lib.ListN.{length};
 ghost use Rattle.ground.specs.Lowest.{lowest};
 ghost use Rattle.ground.specs.Bytes.{at};
 ghost use Rattle.layout.specs.Layout.{limit};
-ghost use Rattle.layout.specs.Barred.{wrong, blockCount, ended, wrongCount, targetFencesOf, barredName, barredFence, nextBelow, barred, Skips, stages, verdictOf};
+ghost use Rattle.layout.specs.Barred.{wrong, wrongCount, blockCount, ended, upstreamFencesOf, targetFencesOf, nextBelow, barredName};
+ghost use Rattle.layout.specs.Barred.{barredFence, barred, lowestBarred, stages, verdictOf};
+ghost use Rattle.layout.specs.inner.Skipping.{Skips};
 use crate::checksum;
 use crate::places;
 use crate::places::Place;
@@ -15,7 +17,8 @@ use answers::Refusal;
 use answers::Verdict;
 use ground::Found;
 
-const LIMIT: usize = 7168;
+// The limit of an image's length.
+pub const LIMIT: usize = 7168;
 
 // Whether a zero stands among the first k bytes of the name.
 fn has_ended(image: &[u8], from: usize, k: usize) -> bool
@@ -130,7 +133,7 @@ fn is_barred_next(image: &[u8], i: usize, value: usize, state: usize) -> bool
 }
 
 fn is_barred_fence_next(image: &[u8], value: usize, state: usize, f: usize) -> bool
-    ensures { λ r. ⌜ r ≡ leb (nextBelow (now (image .entry)) state (ltb f (at (now (image .entry)) 5))) value ⌝ }
+    ensures { λ r. ⌜ r ≡ leb (nextBelow (now (image .entry)) state (ltb f (upstreamFencesOf (now (image .entry))))) value ⌝ }
 {
     let leads = f < ground::number_at(image, 5);
     let limit = next_below(image, state, leads);
@@ -189,7 +192,7 @@ fn next_to_examine(image: &[u8], targets: usize, from: usize) -> usize
 }
 
 fn lowest_barred(image: &[u8]) -> Found
-    ensures { λ r. ⌜ r ≡ lowest (barred (now (image .entry))) 0 (length (now (image .entry))) ⌝ }
+    ensures { λ r. ⌜ r ≡ lowestBarred (now (image .entry)) ⌝ }
 {
     let targets = ground::number_at(image, 6);
     let mut i = 0;
@@ -204,7 +207,7 @@ fn lowest_barred(image: &[u8]) -> Found
 
 // What is wrong with an image whose blocks are right.
 fn examine_bytes(image: &[u8]) -> Verdict
-    ensures { λ r. ⌜ r ≡ stages Found.Nowhere (lowest (barred (now (image .entry))) 0 (length (now (image .entry)))) ⌝ }
+    ensures { λ r. ⌜ r ≡ stages Found.Nowhere (lowestBarred (now (image .entry))) ⌝ }
 {
     let byte = lowest_barred(image);
     match byte {

@@ -1,3 +1,4 @@
+-- `access_step` meets its contract: its tests are the definition's, of the fence byte. Assumes nothing.
 use borrow.Author.Needs.{needs}
 use Rattle.image_runs.proofs.Steps.{step-refused, step-plain, step-fenced}
 use Rattle.image_runs.proofs.access_step.Statement.{statement}

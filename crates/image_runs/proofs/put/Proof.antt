@@ -1,3 +1,4 @@
+-- `put` meets its contract: one or two bytes more stand behind those put out, or none. Assumes nothing.
 use native.Mathlib.Omega.{arith}
 use borrow.Author.Needs.{needs}
 use lib.ListN.{length-set}

@@ -1,3 +1,4 @@
+-- `refusal` meets its contract, case by case. Assumes nothing.
 use borrow.Author.Needs.{needs}
 use Rattle.image_runs.proofs.Endings.{refusal-is}
 use Rattle.image_runs.proofs.refusal.Statement.{statement}

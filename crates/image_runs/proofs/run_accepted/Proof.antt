@@ -1,5 +1,7 @@
+-- `run_accepted` meets its contract: its tests are the definition's, in the same order. Assumes nothing.
 use borrow.Author.Needs.{needs}
 use denote.Ref.{now}
+use Rattle.answers.proofs.Given.{delivers-refusal, delivers-as}
 use Rattle.image_runs.proofs.Endings.{out-of-range, over-limit, in-range}
 use Rattle.image_runs.proofs.run_accepted.Statement.{statement}
 use Rattle.image_runs.proofs.run_accepted.Tie as tie
@@ -8,10 +10,18 @@ number-at-requires : tie.Need-number-at-requires
 number-at-requires c κs = search needs
 
 returns : tie.Need-returns
-returns c = out-of-range (now (c .before .before .before .before .before .args .image)) (c .before .before .before .before .before .args .start) (now (c .before .before .before .before .before .args .stream)) (now (c .before .before .before .before .before .args .out)) _ (c .before .number-at .ensures .0) (c .if1 .taken)
+returns c =
+    let a = c .before .before .before .before .before .args in
+    delivers-as (out-of-range (now (a .image)) (a .start) (now (a .stream)) _ (c .before .number-at .ensures .0) (c .if1 .taken))
+    (delivers-refusal (now (a .out)))
 
 returns-2 : tie.Need-returns-2
-returns-2 c = over-limit (now (c .before .before .before .before .before .before .args .image)) (c .before .before .before .before .before .before .args .start) (now (c .before .before .before .before .before .before .args .stream)) (now (c .before .before .before .before .before .before .args .out)) _ (c .before .before .number-at .ensures .0) (c .before .if1 .left) (c .if2 .taken)
+returns-2 c =
+    let counted = c .before .before in
+    let a = counted .before .before .before .before .args in
+    delivers-as
+    (over-limit (now (a .image)) (a .start) (now (a .stream)) _ (counted .number-at .ensures .0) (c .before .if1 .left) (c .if2 .taken))
+    (delivers-refusal (now (a .out)))
 
 run-from-requires : tie.Need-run-from-requires
 run-from-requires c κs = search needs
@@ -20,7 +30,13 @@ same-length : tie.Need-same-length
 same-length c = search needs
 
 returns-3 : tie.Need-returns-3
-returns-3 c = in-range (now (c .before .before .before .before .before .before .before .before .before .before .args .image)) (c .before .before .before .before .before .before .before .before .before .before .args .start) (now (c .before .before .before .before .before .before .before .before .before .before .args .stream)) (now (c .before .before .before .before .before .before .before .before .before .before .args .out)) _ _ _ (c .before .before .before .before .before .before .number-at .ensures .0) (c .before .before .before .before .before .if1 .left) (c .before .before .before .before .if2 .left) (c .before .before .run-from .ensures)
+returns-3 c =
+    let fits = c .before .before .before .before in
+    let counted = fits .before .before in
+    let a = counted .before .before .before .before .args in
+    delivers-as
+    (in-range (now (a .image)) (a .start) (now (a .stream)) _ (counted .number-at .ensures .0) (fits .before .if1 .left) (fits .if2 .left))
+    (c .before .before .run-from .ensures)
 
 pub run-accepted-spec : {M : Type 1} → statement M
 run-accepted-spec =

@@ -1,3 +1,4 @@
+-- `run_from` meets its contract: where the run stops it is refused, and else what stands at the front of the room is written. Assumes nothing.
 use mathlib.Core.Path.{sym}
 use borrow.Author.Needs.{needs}
 use denote.Ref.{now}
@@ -25,19 +26,30 @@ array-share-prefix-room : tie.Need-array-share-prefix-room
 array-share-prefix-room c = run-fits _ _ _ (c .before .before .before .before .run-all .ensures) _ (c .before .ending2 .given .1)
 
 slice-aggregate-write-out : tie.Need-slice-aggregate-write-out
-slice-aggregate-write-out c = sym (length-take-le _ _ (run-fits _ _ _ (c .before .before .before .before .before .run-all .ensures) _ (c .before .before .ending2 .given .1)))
+slice-aggregate-write-out c =
+    let ended = c .before .before in
+    sym (length-take-le _ _ (run-fits _ _ _ (ended .before .before .before .run-all .ensures) _ (ended .ending2 .given .1)))
 
 write-out-requires : tie.Need-write-out-requires
 write-out-requires c κs = search needs
 
 returns : tie.Need-returns
-returns c = run-refused _ _ _ (c .before .before .before .before .before .run-all .ensures) _ _ _ (now (c .before .before .before .before .before .before .before .before .before .before .args .out)) (c .before .before .ending .given .1) (c .refusal .ensures)
+returns c =
+    let ended = c .before .before in
+    let walk = ended .before .before .before in
+    let a = walk .before .before .before .before .before .args in
+    run-refused _ _ _ (walk .run-all .ensures) _ _ _ (now (a .out)) (ended .ending .given .1) (c .refusal .ensures)
 
 same-length : tie.Need-same-length
 same-length c = search needs
 
 returns-2 : tie.Need-returns-2
-returns-2 c = run-given _ _ _ (c .before .before .before .before .before .before .before .before .before .run-all .ensures) _ (now (c .before .before .before .before .before .before .before .before .before .before .before .before .before .before .args .out)) _ _ (c .before .before .before .before .before .before .ending2 .given .1) (c .before .before .write-out .ensures)
+returns-2 c =
+    let out = c .before .before in
+    let ended = out .before .before .before .before in
+    let walk = ended .before .before .before in
+    let a = walk .before .before .before .before .before .args in
+    run-given _ _ _ (walk .run-all .ensures) _ (now (a .out)) _ _ (ended .ending2 .given .1) (out .write-out .ensures)
 
 pub run-from-spec : {M : Type 1} → statement M
 run-from-spec =

@@ -1,3 +1,4 @@
+-- `take` meets its contract, an access or a fence. Assumes nothing.
 use borrow.Author.Needs.{needs}
 use Rattle.image_runs.proofs.Steps.{step-operation}
 use Rattle.image_runs.proofs.take.Statement.{statement}

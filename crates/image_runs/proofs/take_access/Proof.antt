@@ -1,3 +1,4 @@
+-- `take_access` meets its contract: the two bytes that it reads are those of the access's entry. Assumes nothing.
 use borrow.Author.Needs.{needs}
 use denote.Ref.{now}
 use Rattle.image_runs.proofs.Steps.{step-access}
@@ -32,7 +33,11 @@ access-step-requires : tie.Need-access-step-requires
 access-step-requires c κs = search needs
 
 returns : tie.Need-returns
-returns c = let a = c .before .before .before .before .before .before .args in step-access (now (a .image)) (a .state) (a .kind) _ _ _ _ _ (c .before .before .before .letter-of .ensures .0) (c .before .before .before .before .entry-start .ensures .0) (c .before .before .number-at .ensures .0) (c .before .number-at2 .ensures .0) (c .access-step .ensures)
+returns c =
+    let lettered = c .before .before .before in
+    let a = lettered .before .before .before .args in
+    step-access (now (a .image)) (a .state) (a .kind) _ _ _ _ _ (lettered .letter-of .ensures .0) (lettered .before .entry-start .ensures .0)
+    (c .before .before .number-at .ensures .0) (c .before .number-at2 .ensures .0) (c .access-step .ensures)
 
 pub take-access-spec : {M : Type 1} → statement M
 take-access-spec =

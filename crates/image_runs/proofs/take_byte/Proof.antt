@@ -1,3 +1,4 @@
+-- `take_byte` meets its contract: by what the byte is. Assumes nothing.
 use mathlib.Core.Path.{refl}
 use borrow.Author.Needs.{needs}
 use Rattle.image_runs.proofs.Steps.{step-byte}

@@ -1,3 +1,4 @@
+-- `take_fence` meets its contract: a fence that the upstream model has, and the byte where it leads. Assumes nothing.
 use borrow.Author.Needs.{needs}
 use denote.Ref.{now}
 use Rattle.image_runs.proofs.Steps.{step-no-fence, step-passed}
@@ -8,7 +9,9 @@ number-at-requires : tie.Need-number-at-requires
 number-at-requires c κs = search needs
 
 returns : tie.Need-returns
-returns c = let a = c .before .before .before .args in step-no-fence (now (a .image)) (a .state) _ _ (c .before .number-at .ensures .0) (c .if1 .taken)
+returns c =
+    let a = c .before .before .before .args in
+    step-no-fence (now (a .image)) (a .state) _ _ (c .before .number-at .ensures .0) (c .if1 .taken)
 
 cast-entry-start : tie.Need-cast-entry-start
 cast-entry-start c = search needs
@@ -26,7 +29,11 @@ number-at-requires-2 : tie.Need-number-at-requires-2
 number-at-requires-2 c κs = search needs
 
 returns-2 : tie.Need-returns-2
-returns-2 c = let a = c .before .before .before .before .before .args in step-passed (now (a .image)) (a .state) _ _ (c .before .before .before .number-at .ensures .0) _ _ (c .before .before .if1 .left) (c .before .entry-start .ensures .0) (c .number-at2 .ensures .0) (c .number-at2 .ensures .1)
+returns-2 c =
+    let there = c .before .before in
+    let a = there .before .before .before .args in
+    step-passed (now (a .image)) (a .state) _ _ (there .before .number-at .ensures .0) _ _ (there .if1 .left) (c .before .entry-start .ensures .0)
+    (c .number-at2 .ensures .0) (c .number-at2 .ensures .1)
 
 pub take-fence-spec : {M : Type 1} → statement M
 take-fence-spec =

@@ -38,17 +38,19 @@ returns : tie.Need-returns
 returns c =
     let r = c .before .before .before .before .before in
     let a = r .before .before .before .before .args in
-    back-refused (now (a .image)) (λ i. r .before .before .before .shared-slice-known .given i .fits) _ (r .read .ensures .0) _ (now (a .out)) (c .before .verdict .given .1)
+    back-refused (now (a .image)) (λ i. r .before .before .before .shared-slice-known .given i .fits) _ _ (r .read .ensures) _ (now (a .out))
+    (c .before .verdict .given .1)
 
 same-length : tie.Need-same-length
 same-length c = search needs
 
 returns-2 : tie.Need-returns-2
 returns-2 c =
-    let r = c .before .before .before .before .before .before .before .before .before .before in
+    let counted = c .before .before .before .before .before in
+    let r = counted .before .before .before .before .before in
     let a = r .before .before .before .before .args in
-    back-accepted (now (a .image)) (λ i. r .before .before .before .shared-slice-known .given i .fits) _ (r .read .ensures .0)
-    (c .before .before .before .before .before .before .enum-told .given .1) _ _ (now (a .out)) _ _ (c .before .before .before .before .before .wide .ensures .0) (r .read .ensures .1) (c .before .before .write .ensures)
+    back-accepted (now (a .image)) (λ i. r .before .before .before .shared-slice-known .given i .fits) _ _ (r .read .ensures)
+    (counted .before .enum-told .given .1) _ (now (a .out)) _ _ (counted .wide .ensures .0) (c .before .before .write .ensures)
 
 pub write-back-spec : {M : Type 1} → statement M
 write-back-spec =

@@ -1,3 +1,4 @@
+-- `entry_word` meets its contract: its tests are the definition's, of the letter and the upstream fences. Assumes nothing.
 use borrow.Author.Needs.{needs}
 use Rattle.image.proofs.Entries.{entry-access, entry-fence, entry-absent}
 use Rattle.image.proofs.reader.entry_word.Statement.{statement}
@@ -37,7 +38,10 @@ cast-result : tie.Need-cast-result
 cast-result c = search needs
 
 returns : tie.Need-returns
-returns c = entry-access _ _ _ _ (c .before .before .before .entry-start .ensures .0) _ _ (c .before .before .if1 .taken) (c .before .number-at .ensures .0) (c .number-at2 .ensures .0)
+returns c =
+    let access = c .before .before in
+    entry-access _ _ _ _ (access .before .entry-start .ensures .0) _ _ (access .if1 .taken) (c .before .number-at .ensures .0)
+    (c .number-at2 .ensures .0)
 
 number-at-requires-3 : tie.Need-number-at-requires-3
 number-at-requires-3 c κs = search needs
@@ -61,10 +65,15 @@ cast-result-2 : tie.Need-cast-result-2
 cast-result-2 c = search needs
 
 returns-2 : tie.Need-returns-2
-returns-2 c = entry-fence _ _ _ _ (c .before .before .before .before .entry-start .ensures .0) _ (c .before .before .before .if1 .left) (c .before .before .number-at3 .ensures .0) _ (c .before .if2 .taken) (c .number-at4 .ensures .0)
+returns-2 c =
+    let fence = c .before .before .before in
+    entry-fence _ _ _ _ (fence .before .entry-start .ensures .0) _ (fence .if1 .left) (c .before .before .number-at3 .ensures .0) _
+    (c .before .if2 .taken) (c .number-at4 .ensures .0)
 
 returns-3 : tie.Need-returns-3
-returns-3 c = entry-absent _ _ _ _ (c .before .before .before .entry-start .ensures .0) _ (c .before .before .if1 .left) (c .before .number-at3 .ensures .0) (c .if2 .left)
+returns-3 c =
+    let fence = c .before .before in
+    entry-absent _ _ _ _ (fence .before .entry-start .ensures .0) _ (fence .if1 .left) (c .before .number-at3 .ensures .0) (c .if2 .left)
 
 pub entry-word-spec : {M : Type 1} → statement M
 entry-word-spec =

@@ -1,14 +1,15 @@
-use Prim.Native.Nat.{ℕ, _-_, _/_, _%_, _≤_}
+-- `fill_rows` meets its contract: after j turns the first j words are filled in and the rest is as it was. Assumes nothing.
+use Prim.Native.Nat.{_-_, _≤_}
 use native.Mathlib.Omega.{arith}
 use borrow.Author.Needs.{needs}
-use Rattle.operations.specs.Alphabet.{stride}
-use Rattle.image.specs.Image.{entryWord, Filled}
+use Rattle.image.specs.Image.{rowWord}
+use Rattle.image.specs.inner.Filling.{Filled}
 use Rattle.image.proofs.Fronts.{filled-none, filled-more, filled-to}
 use Rattle.image.proofs.reader.fill_rows.Statement.{statement}
 use Rattle.image.proofs.reader.fill_rows.Tie as tie
 
 abbrev Inv-loop : tie.InvT-loop
-Inv-loop image rows₀ count j₀ rows j = (j ≤ count) × Filled rows₀ (λ (i : ℕ). entryWord image (i / stride) (i % stride)) j rows
+Inv-loop image rows₀ count j₀ rows j = (j ≤ count) × Filled rows₀ (rowWord image) j rows
 
 abbrev μ-loop : tie.MeasureT-loop
 μ-loop image rows₀ count j₀ rows j = count - j

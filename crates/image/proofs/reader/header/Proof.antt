@@ -1,3 +1,4 @@
+-- `header` meets its contract, field by field. Assumes nothing.
 use borrow.Author.Needs.{needs}
 use Rattle.image.specs.Image.{headerOf}
 use Rattle.image.proofs.reader.header.Statement.{statement}
@@ -23,7 +24,16 @@ name-at-requires-2 c κs = search needs
 
 returns : tie.Need-returns
 unfolding headerOf
-returns c = λ i. record { way = c .before .before .before .before .before .byte-at .ensures i; states = c .before .before .before .before .byte-at2 .ensures i; ups = c .before .before .before .byte-at3 .ensures i; targets = c .before .before .byte-at4 .ensures i; upstream = c .before .name-at .ensures i; target = c .name-at2 .ensures i }
+returns c =
+    let numbers = c .before .before in
+    λ i. record {
+      way = numbers .before .before .before .byte-at .ensures i;
+      states = numbers .before .before .byte-at2 .ensures i;
+      ups = numbers .before .byte-at3 .ensures i;
+      targets = numbers .byte-at4 .ensures i;
+      upstream = c .before .name-at .ensures i;
+      target = c .name-at2 .ensures i;
+    }
 
 pub header-spec : {M : Type 1} → statement M
 header-spec =

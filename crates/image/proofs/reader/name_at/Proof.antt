@@ -1,10 +1,11 @@
+-- `name_at` meets its contract: after k turns the first k bytes are the image's. Assumes nothing.
 use Prim.Native.Nat.{ℕ, _+_, _-_, _≤_}
 use mathlib.Core.Path.{_≡_, refl}
 use native.Mathlib.Omega.{arith}
 use borrow.Author.Needs.{needs}
 use lib.ListN.{length, length-set}
 use Rattle.ground.specs.Bytes.{at}
-use Rattle.image.specs.Image.{Front}
+use Rattle.image.specs.inner.Filling.{Front}
 use Rattle.image.proofs.Fronts.{front-none, front-more, front-to, front-all}
 use Rattle.image.proofs.reader.name_at.Statement.{statement}
 use Rattle.image.proofs.reader.name_at.Tie as tie

@@ -1,6 +1,6 @@
-use mathlib.Core.Path.{refl}
+-- `read` meets its contract: by the verdict, refused or read. Assumes nothing.
 use borrow.Author.Needs.{needs}
-use Rattle.image.proofs.Readings.{reads-as}
+use Rattle.image.proofs.Readings.{read-refused, reads-as}
 use Rattle.image.proofs.reader.read.Statement.{statement}
 use Rattle.image.proofs.reader.read.Tie as tie
 
@@ -20,13 +20,17 @@ read-accepted-requires : tie.Need-read-accepted-requires
 read-accepted-requires c κs = search needs
 
 returns : tie.Need-returns
-returns c = reads-as _ _ _ _ (c .before .before .before .before .examine .ensures) (c .before .before .verdict .given .1) _ _ (c .refused .ensures, refl)
+returns c =
+    let judged = c .before .before in
+    reads-as _ _ _ _ (judged .before .before .examine .ensures) (judged .verdict .given .1) _ _ (read-refused _ _ _ _ (c .refused .ensures))
 
 same-length : tie.Need-same-length
 same-length c = search needs
 
 returns-2 : tie.Need-returns-2
-returns-2 c = reads-as _ _ _ _ (c .before .before .before .before .before .before .examine .ensures) (c .before .before .before .before .enum-told .given .1) _ _ (c .before .before .read-accepted .ensures)
+returns-2 c =
+    let judged = c .before .before .before .before in
+    reads-as _ _ _ _ (judged .before .before .examine .ensures) (judged .enum-told .given .1) _ _ (c .before .before .read-accepted .ensures)
 
 pub read-spec : {M : Type 1} → statement M
 read-spec =

@@ -1,4 +1,4 @@
-use mathlib.Core.Path.{_∙_}
+-- `read_accepted` meets its contract: too little room refuses, and else the rows are filled. Assumes nothing.
 use borrow.Author.Needs.{needs}
 use denote.Ref.{now}
 use Rattle.image.proofs.Readings.{read-short, read-whole}
@@ -15,7 +15,10 @@ refused-requires : tie.Need-refused-requires
 refused-requires c κs = search needs
 
 returns : tie.Need-returns
-returns c = let s = read-short (now (c .before .before .before .before .before .args .image)) (now (c .before .before .before .before .before .args .rows)) _ (c .before .before .number-at .ensures .0) (c .before .if1 .taken) in (c .refused .ensures ∙ s .0, s .1)
+returns c =
+    let counted = c .before .before in
+    let a = counted .before .before .before .args in
+    read-short (now (a .image)) (now (a .rows)) _ (counted .number-at .ensures .0) _ (c .before .if1 .taken) (c .refused .ensures)
 
 fill-rows-requires : tie.Need-fill-rows-requires
 fill-rows-requires c κs = search needs
@@ -27,7 +30,12 @@ same-length : tie.Need-same-length
 same-length c = search needs
 
 returns-2 : tie.Need-returns-2
-returns-2 c = read-whole (now (c .before .before .before .before .before .before .before .before .before .args .image)) (now (c .before .before .before .before .before .before .before .before .before .args .rows)) _ (c .before .before .before .before .before .before .number-at .ensures .0) _ _ (c .before .before .before .before .before .if1 .left) (c .header .ensures) (c .before .before .before .fill-rows .ensures)
+returns-2 c =
+    let filled = c .before .before .before in
+    let roomy = filled .before .before in
+    let a = roomy .before .before .before .before .args in
+    read-whole (now (a .image)) (now (a .rows)) _ (roomy .before .number-at .ensures .0) _ _ (roomy .if1 .left) (c .header .ensures)
+    (filled .fill-rows .ensures)
 
 pub read-accepted-spec : {M : Type 1} → statement M
 read-accepted-spec =

@@ -1,3 +1,4 @@
+-- `fence_of` meets its contract: its test is the definition's. Assumes nothing.
 use Prim.Native.Nat.{ℕ, _/_}
 use mathlib.Core.Path.{ap}
 use borrow.Author.Needs.{needs}

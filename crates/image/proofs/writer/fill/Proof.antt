@@ -1,16 +1,20 @@
+-- `fill` meets its contract: after b turns the first b blocks are those of the image. Assumes nothing.
 use Prim.Native.Nat.{_*_, _-_, _≤_}
 use mathlib.Core.Path.{_∙_, _≡_, refl}
 use native.Mathlib.Omega.{arith}
 use borrow.Author.Needs.{needs}
 use lib.ListN.{length}
 use Rattle.layout.specs.Layout.{blocksFor}
-use Rattle.image.specs.Image.{byteAt, Front}
+use Rattle.image.specs.Image.{byteAt}
+use Rattle.image.specs.inner.Filling.{Front}
 use Rattle.image.proofs.Fronts.{front-to, front-none}
 use Rattle.image.proofs.writer.fill.Statement.{statement}
 use Rattle.image.proofs.writer.fill.Tie as tie
 
 abbrev Inv-loop : tie.InvT-loop
-Inv-loop h rows image₀ count b₀ image b = (b ≤ count) × (count ≤ 14) × (count ≡ blocksFor 1 (h .states)) × (length image ≡ length image₀) × Front (byteAt h rows) (512 * b) image
+Inv-loop h rows image₀ count b₀ image b =
+    (b ≤ count) × (count ≤ 14) × (count ≡ blocksFor 1 (h .states)) × (length image ≡ length image₀)
+    × Front (byteAt h rows) (512 * b) image
 
 abbrev μ-loop : tie.MeasureT-loop
 μ-loop h rows image₀ count b₀ image b = count - b
@@ -31,7 +35,15 @@ loop-less : tie.Need-loop-less Inv-loop μ-loop
 loop-less c = search needs
 
 loop-again : tie.Need-loop-again Inv-loop μ-loop
-loop-again c = let i = c .before .before .before .before .before .loop .inv in (omega arith, i .1, i .2, c .before .before .fill-block .kept .1 .1 .0 ∙ i .3, front-to (c .before .before .fill-block .ensures) _ (omega arith))
+loop-again c =
+    let filled = c .before .before in
+    let i = filled .before .before .before .loop .inv in (
+      omega arith,
+      i .1,
+      i .2,
+      filled .fill-block .kept .1 .1 .0 ∙ i .3,
+      front-to (filled .fill-block .ensures) _ (omega arith),
+    )
 
 same-length : tie.Need-same-length Inv-loop μ-loop
 same-length c = search needs

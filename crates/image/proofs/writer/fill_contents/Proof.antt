@@ -1,10 +1,12 @@
+-- `fill_contents` meets its contract: after p turns the first p bytes of the block are those of the image. Assumes nothing.
 use Prim.Native.Nat.{_+_, _-_, _*_, _≤_}
 use mathlib.Core.Path.{refl, _≡_}
 use native.Mathlib.Omega.{arith}
 use borrow.Author.Needs.{needs}
 use lib.ListN.{length, length-set}
 use Rattle.image.proofs.Fronts.{front-to}
-use Rattle.image.specs.Image.{byteAt, Front}
+use Rattle.image.specs.Image.{byteAt}
+use Rattle.image.specs.inner.Filling.{Front}
 use Rattle.image.proofs.Sealing.{contents-start, contents-next}
 use Rattle.image.proofs.writer.fill_contents.Statement.{statement}
 use Rattle.image.proofs.writer.fill_contents.Tie as tie
@@ -43,7 +45,12 @@ loop-less : tie.Need-loop-less Inv-loop μ-loop
 loop-less c = search needs
 
 loop-again : tie.Need-loop-again Inv-loop μ-loop
-loop-again c = let i = c .before .before .loop .inv in (omega arith, simp length-set (i .1), contents-next _ _ _ _ _ (i .2) (c .before .loop-test .taken) (omega arith) (c .value-at .ensures))
+loop-again c =
+    let i = c .before .before .loop .inv in (
+      omega arith,
+      simp length-set (i .1),
+      contents-next _ _ _ _ _ (i .2) (c .before .loop-test .taken) (omega arith) (c .value-at .ensures),
+    )
 
 same-length : tie.Need-same-length Inv-loop μ-loop
 same-length c = search needs

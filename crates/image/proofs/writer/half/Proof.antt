@@ -1,3 +1,4 @@
+-- `half` meets its contract: its test is the definition's. Assumes nothing.
 use borrow.Author.Needs.{needs}
 use Rattle.image.specs.Image.{half}
 use Rattle.layout.proofs.Tests.{tests}

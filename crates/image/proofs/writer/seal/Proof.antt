@@ -1,8 +1,9 @@
+-- `seal` meets its contract: the block is all there, so that its check is the one that is stored. Assumes nothing.
 use mathlib.Core.Path.{sym, _∙_}
 use native.Mathlib.Omega.{arith}
 use borrow.Author.Needs.{needs}
 use lib.ListN.{length-set}
-use Rattle.image.specs.Image.{sealed}
+use Rattle.image.specs.inner.Filling.{sealed}
 use Rattle.image.proofs.writer.seal.Statement.{statement}
 use Rattle.image.proofs.writer.seal.Tie as tie
 use Rattle.layout.proofs.Blocks.{check-there}

@@ -1,3 +1,4 @@
+-- `value_at` meets its contract: what is put at a byte is what its place wants. Assumes nothing.
 use mathlib.Core.Path.{refl}
 use native.Mathlib.Omega.{arith}
 use borrow.Author.Needs.{needs}
@@ -34,34 +35,46 @@ enum-known-place : tie.Need-enum-known-place
 enum-known-place c = search needs
 
 element-copy-out-result : tie.Need-element-copy-out-result
-element-copy-out-result c = let s = stands-at _ _ _ (c .before .before .before .stands-at .ensures) (c .before .place .given .1) in omega arith
+element-copy-out-result c =
+    let s = stands-at _ _ _ (c .before .before .before .stands-at .ensures) (c .before .place .given .1) in
+    omega arith
 
 enum-known-place-2 : tie.Need-enum-known-place-2
 enum-known-place-2 c = search needs
 
 element-copy-out-result-2 : tie.Need-element-copy-out-result-2
-element-copy-out-result-2 c = let s = stands-at _ _ _ (c .before .before .before .stands-at .ensures) (c .before .place2 .given .1) in omega arith
+element-copy-out-result-2 c =
+    let s = stands-at _ _ _ (c .before .before .before .stands-at .ensures) (c .before .place2 .given .1) in
+    omega arith
 
 enum-known-place-3 : tie.Need-enum-known-place-3
 enum-known-place-3 c = search needs
 
 fence-of-requires : tie.Need-fence-of-requires
-fence-of-requires c κs = let s = stands-at _ _ _ (c .before .before .before .stands-at .ensures) (c .before .place3 .given .1) in (omega arith, omega arith)
+fence-of-requires c κs =
+    let s = stands-at _ _ _ (c .before .before .before .stands-at .ensures) (c .before .place3 .given .1) in
+    (omega arith, omega arith)
 
 enum-known-place-4 : tie.Need-enum-known-place-4
 enum-known-place-4 c = search needs
 
 next-of-requires : tie.Need-next-of-requires
-next-of-requires c κs = let s = stands-at _ _ _ (c .before .before .before .stands-at .ensures) (c .before .place4 .given .1) in (omega arith, omega arith)
+next-of-requires c κs =
+    let s = stands-at _ _ _ (c .before .before .before .stands-at .ensures) (c .before .place4 .given .1) in
+    (omega arith, omega arith)
 
 enum-known-place-5 : tie.Need-enum-known-place-5
 enum-known-place-5 c = search needs
 
 add-next-of : tie.Need-add-next-of
-add-next-of c = let s = stands-at _ _ _ (c .before .before .before .stands-at .ensures) (c .before .place5 .given .1) in omega arith
+add-next-of c =
+    let s = stands-at _ _ _ (c .before .before .before .stands-at .ensures) (c .before .place5 .given .1) in
+    omega arith
 
 next-of-requires-2 : tie.Need-next-of-requires-2
-next-of-requires-2 c κs = let s = stands-at _ _ _ (c .before .before .before .stands-at .ensures) (c .before .place5 .given .1) in (omega arith, omega arith)
+next-of-requires-2 c κs =
+    let s = stands-at _ _ _ (c .before .before .before .stands-at .ensures) (c .before .place5 .given .1) in
+    (omega arith, omega arith)
 
 enum-told-7 : tie.Need-enum-told-7
 enum-told-7 c = search needs
@@ -94,13 +107,19 @@ returns-8 : tie.Need-returns-8
 returns-8 c = value-as _ _ _ _ _ _ (c .before .before .before .before .stands-at .ensures) (c .before .before .place2 .given .1) refl
 
 returns-9 : tie.Need-returns-9
-returns-9 c = value-as _ _ _ _ _ _ (c .before .before .before .before .stands-at .ensures) (c .before .before .place3 .given .1) (c .fence-of .ensures)
+returns-9 c =
+    let looked = c .before .before .before .before in
+    value-as _ _ _ _ _ _ (looked .stands-at .ensures) (c .before .before .place3 .given .1) (c .fence-of .ensures)
 
 returns-10 : tie.Need-returns-10
-returns-10 c = value-as _ _ _ _ _ _ (c .before .before .before .before .stands-at .ensures) (c .before .before .place4 .given .1) (c .next-of .ensures)
+returns-10 c =
+    let looked = c .before .before .before .before in
+    value-as _ _ _ _ _ _ (looked .stands-at .ensures) (c .before .before .place4 .given .1) (c .next-of .ensures)
 
 returns-11 : tie.Need-returns-11
-returns-11 c = value-as _ _ _ _ _ _ (c .before .before .before .before .stands-at .ensures) (c .before .before .place5 .given .1) (c .next-of2 .ensures)
+returns-11 c =
+    let looked = c .before .before .before .before in
+    value-as _ _ _ _ _ _ (looked .stands-at .ensures) (c .before .before .place5 .given .1) (c .next-of2 .ensures)
 
 returns-12 : tie.Need-returns-12
 returns-12 c = value-as _ _ _ _ _ _ (c .before .before .stands-at .ensures) (c .enum-told7 .given .1) refl

@@ -1,3 +1,4 @@
+-- `word_at` meets its contract: past the end of the rows a word is 0. Assumes nothing.
 use mathlib.Core.Path.{sym}
 use borrow.Author.Needs.{needs}
 use denote.Ref.{now}

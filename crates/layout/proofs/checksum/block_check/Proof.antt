@@ -1,4 +1,4 @@
--- `block_check` meets its contract. Assumes nothing.
+-- `block_check` meets its contract: a block below the length's 512th part is all there. Assumes nothing.
 use mathlib.Core.Path.{_∙_}
 use native.Mathlib.Omega.{arith}
 use borrow.Author.Needs.{needs}

@@ -1,3 +1,4 @@
+-- `check` meets its contract: after k turns the sum is that of the first k words. Assumes nothing.
 use Prim.Native.Nat.{ℕ, _+_, _-_, _≤_, _<_}
 use mathlib.Core.Path.{_≡_}
 use native.Mathlib.Omega.{arith}
@@ -37,7 +38,13 @@ loop-less : tie.Need-loop-less Inv-loop μ-loop
 loop-less c = search needs
 
 loop-again : tie.Need-loop-again Inv-loop μ-loop
-loop-again c = let a = c .before .before .before .before .before .args in (omega arith, search needs, sum-more (now (a .bytes)) (a .from) _ _ _ _ (c .before .before .before .loop .inv .2) (c .before .two-bytes .ensures .0) (c .plus .ensures .0))
+loop-again c =
+    let turn = c .before .before .before in
+    let a = turn .before .before .args in (
+      omega arith,
+      search needs,
+      sum-more (now (a .bytes)) (a .from) _ _ _ _ (turn .loop .inv .2) (c .before .two-bytes .ensures .0) (c .plus .ensures .0),
+    )
 
 sub-result : tie.Need-sub-result Inv-loop μ-loop
 sub-result c = search needs

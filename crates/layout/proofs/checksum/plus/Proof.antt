@@ -1,3 +1,4 @@
+-- `plus` meets its contract: its one test is the definition's. Assumes nothing.
 use borrow.Author.Needs.{needs}
 use Rattle.layout.proofs.Tests.{tests}
 use Rattle.layout.proofs.checksum.plus.Statement.{statement}

@@ -1,3 +1,4 @@
+-- `content_place` meets its contract: its test is the definition's, and so are its sums. Assumes nothing.
 use borrow.Author.Needs.{needs}
 use Rattle.layout.proofs.Tests.{tests}
 use Rattle.layout.proofs.places.content_place.Statement.{statement}

@@ -1,3 +1,4 @@
+-- `entry_place` meets its contract: its tests are the definition's. Assumes nothing.
 use Rattle.layout.proofs.Tests.{tests}
 use Rattle.layout.proofs.places.entry_place.Statement.{statement}
 use Rattle.layout.proofs.places.entry_place.Tie as tie

@@ -1,3 +1,4 @@
+-- `header_place` meets its contract: its tests are the definition's, in the same order. Assumes nothing.
 use Rattle.layout.proofs.Tests.{tests}
 use Rattle.layout.proofs.places.header_place.Statement.{statement}
 use Rattle.layout.proofs.places.header_place.Tie as tie

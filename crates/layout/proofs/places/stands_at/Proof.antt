@@ -1,3 +1,4 @@
+-- `stands_at` meets its contract: its tests are the definition's, in the same order. Assumes nothing.
 use borrow.Author.Needs.{needs}
 use Rattle.layout.proofs.Tests.{tests}
 use Rattle.layout.specs.Layout.{standsAt}

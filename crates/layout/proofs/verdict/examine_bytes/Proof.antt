@@ -1,3 +1,4 @@
+-- `examine_bytes` meets its contract: with no wrong block the lowest barred byte decides. Assumes nothing.
 use mathlib.Core.Path.{sym, ap, _∙_}
 use borrow.Author.Needs.{needs}
 use Rattle.ground.specs.declared.Found.{Found}

@@ -1,8 +1,9 @@
+-- `has_ended` meets its contract: whether a zero stands among the first k bytes is whether it does among the first j. Assumes nothing.
 use Prim.Native.Nat.{_≤_}
 use mathlib.Core.Path.{_≡_, refl}
 use native.Mathlib.Omega.{arith}
 use borrow.Author.Needs.{needs}
-use Rattle.layout.proofs.Lowest.{ended-here, ended-on, ended-none}
+use Rattle.layout.proofs.Names.{ended-here, ended-on, ended-none}
 use Rattle.layout.specs.Barred.{ended}
 use Rattle.layout.proofs.verdict.has_ended.Statement.{statement}
 use Rattle.layout.proofs.verdict.has_ended.Tie as tie
@@ -26,7 +27,9 @@ byte-at-requires : tie.Need-byte-at-requires Inv-loop μ-loop
 byte-at-requires c κs = search needs
 
 returns : tie.Need-returns Inv-loop μ-loop
-returns c = ended-here _ _ _ _ _ (c .before .before .before .loop .inv .1) (c .before .before .loop-test .taken) (c .before .byte-at .ensures) (c .if1 .taken)
+returns c =
+    let turn = c .before .before in
+    ended-here _ _ _ _ _ (turn .before .loop .inv .1) (turn .loop-test .taken) (c .before .byte-at .ensures) (c .if1 .taken)
 
 sub-j : tie.Need-sub-j Inv-loop μ-loop
 sub-j c = search needs
@@ -35,7 +38,11 @@ loop-less : tie.Need-loop-less Inv-loop μ-loop
 loop-less c = search needs
 
 loop-again : tie.Need-loop-again Inv-loop μ-loop
-loop-again c = (omega arith, ended-on _ _ _ _ _ (c .before .before .before .loop .inv .1) (c .before .before .loop-test .taken) (c .before .byte-at .ensures) (c .if1 .left))
+loop-again c =
+    let turn = c .before .before in (
+      omega arith,
+      ended-on _ _ _ _ _ (turn .before .loop .inv .1) (turn .loop-test .taken) (c .before .byte-at .ensures) (c .if1 .left),
+    )
 
 returns-2 : tie.Need-returns-2 Inv-loop μ-loop
 returns-2 c = ended-none _ _ _ _ (c .before .loop .inv .1) (c .loop-test .left)

@@ -1,3 +1,4 @@
+-- `is_barred_fence` meets its contract: its tests are the definition's, of the states and target fences that the image holds. Assumes nothing.
 use borrow.Author.Needs.{needs}
 use Rattle.layout.proofs.Names.{fence-unused, fence-high, fence-number}
 use Rattle.layout.proofs.verdict.is_barred_fence.Statement.{statement}
@@ -13,10 +14,14 @@ number-at-requires-2 : tie.Need-number-at-requires-2
 number-at-requires-2 c κs = search needs
 
 returns-2 : tie.Need-returns-2
-returns-2 c = fence-high _ _ _ _ (c .before .before .before .number-at .ensures .0) _ (c .before .number-at2 .ensures .0) (c .before .before .if1 .left) (c .if2 .taken)
+returns-2 c =
+    let used = c .before .before in
+    fence-high _ _ _ _ (used .before .number-at .ensures .0) _ (c .before .number-at2 .ensures .0) (used .if1 .left) (c .if2 .taken)
 
 returns-3 : tie.Need-returns-3
-returns-3 c = fence-number _ _ _ _ (c .before .before .before .number-at .ensures .0) _ (c .before .number-at2 .ensures .0) (c .before .before .if1 .left) (c .if2 .left)
+returns-3 c =
+    let used = c .before .before in
+    fence-number _ _ _ _ (used .before .number-at .ensures .0) _ (c .before .number-at2 .ensures .0) (used .if1 .left) (c .if2 .left)
 
 pub is-barred-fence-spec : {M : Type 1} → statement M
 is-barred-fence-spec =

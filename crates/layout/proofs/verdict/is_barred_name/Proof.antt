@@ -1,3 +1,4 @@
+-- `is_barred_name` meets its contract: its tests are the definition's, of the name's byte. Assumes nothing.
 use borrow.Author.Needs.{needs}
 use Rattle.layout.proofs.Names.{name-zero, name-good, name-bad}
 use Rattle.layout.proofs.verdict.is_barred_name.Statement.{statement}
@@ -19,10 +20,15 @@ has-ended-requires : tie.Need-has-ended-requires
 has-ended-requires c κs = search needs
 
 returns-2 : tie.Need-returns-2
-returns-2 c = name-good _ _ _ _ (c .before .before .before .before .byte-at .ensures) _ _ (c .before .before .before .if1 .left) (c .before .before .is-name-byte .ensures) (c .before .if2 .taken) (c .has-ended .ensures)
+returns-2 c =
+    let tested = c .before .before in
+    name-good _ _ _ _ (tested .before .before .byte-at .ensures) _ _ (tested .before .if1 .left) (tested .is-name-byte .ensures)
+    (c .before .if2 .taken) (c .has-ended .ensures)
 
 returns-3 : tie.Need-returns-3
-returns-3 c = name-bad _ _ _ _ (c .before .before .before .byte-at .ensures) _ (c .before .before .if1 .left) (c .before .is-name-byte .ensures) (c .if2 .left)
+returns-3 c =
+    let tested = c .before in
+    name-bad _ _ _ _ (tested .before .before .byte-at .ensures) _ (tested .before .if1 .left) (tested .is-name-byte .ensures) (c .if2 .left)
 
 pub is-barred-name-spec : {M : Type 1} → statement M
 is-barred-name-spec =

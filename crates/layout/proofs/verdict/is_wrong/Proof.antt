@@ -1,3 +1,4 @@
+-- `is_wrong` meets its contract: a block broken off, else by its number, else by its check. Assumes nothing.
 use borrow.Author.Needs.{needs}
 use Rattle.layout.proofs.Blocks.{wrong-short, wrong-number, wrong-check}
 use Rattle.layout.proofs.verdict.is_wrong.Statement.{statement}
@@ -28,7 +29,10 @@ check-requires : tie.Need-check-requires
 check-requires c κs = search needs
 
 returns-3 : tie.Need-returns-3
-returns-3 c = wrong-check _ _ (c .before .before .before .before .if1 .left) _ (c .before .before .before .two-bytes .ensures .0) _ _ (c .before .before .if2 .left) (c .before .two-bytes2 .ensures .0) (c .check .ensures .0)
+returns-3 c =
+    let numbered = c .before .before .before in
+    wrong-check _ _ (numbered .before .if1 .left) _ (numbered .two-bytes .ensures .0) _ _ (c .before .before .if2 .left)
+    (c .before .two-bytes2 .ensures .0) (c .check .ensures .0)
 
 pub is-wrong-spec : {M : Type 1} → statement M
 is-wrong-spec =

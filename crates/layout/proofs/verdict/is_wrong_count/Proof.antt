@@ -1,3 +1,4 @@
+-- `is_wrong_count` meets its contract: no states, or another length than they want. Assumes nothing.
 use borrow.Author.Needs.{needs}
 use Rattle.layout.proofs.Tests.{tests}
 use Rattle.layout.specs.Barred.{wrongCount}

@@ -1,16 +1,17 @@
+-- `lowest_barred` meets its contract: the lowest barred byte of all is the lowest from i on, whatever zeros are passed. Assumes nothing.
 use Prim.Native.Nat.{_-_}
 use mathlib.Core.Path.{_≡_, sym, _∙_}
 use borrow.Author.Needs.{needs}
 use lib.ListN.{length}
 use Rattle.ground.proofs.Lowest.{lowest-here, lowest-none, lowest-start}
-use Rattle.ground.specs.Lowest.{lowest}
 use Rattle.layout.proofs.Zeros.{skips-on}
-use Rattle.layout.specs.Barred.{targetFencesOf, barred}
+use Rattle.layout.specs.Barred.{targetFencesOf, lowestBarred}
+use Rattle.layout.specs.inner.Skipping.{barredFrom}
 use Rattle.layout.proofs.verdict.lowest_barred.Statement.{statement}
 use Rattle.layout.proofs.verdict.lowest_barred.Tie as tie
 
 abbrev Inv-loop : tie.InvT-loop
-Inv-loop image targets i₀ i = (targets ≡ targetFencesOf image) × (lowest (barred image) 0 (length image) ≡ lowest (barred image) i (length image - i))
+Inv-loop image targets i₀ i = (targets ≡ targetFencesOf image) × (lowestBarred image ≡ barredFrom image i)
 
 abbrev μ-loop : tie.MeasureT-loop
 μ-loop image targets i₀ i = length image - i
@@ -39,7 +40,8 @@ loop-less c = search needs
 loop-again : tie.Need-loop-again Inv-loop μ-loop
 loop-again c =
     let held = c .before .before .before .before .loop .inv in
-    (held .0, skips-on _ _ _ (held .1) (search needs) (sym (c .before .before .is-barred .ensures) ∙ c .before .if1 .left) (c .next-to-examine .ensures))
+    let kept = sym (c .before .before .is-barred .ensures) ∙ c .before .if1 .left in
+    (held .0, skips-on _ _ _ (held .1) (search needs) kept (c .next-to-examine .ensures))
 
 returns-2 : tie.Need-returns-2 Inv-loop μ-loop
 returns-2 c = lowest-none _ _ _ (c .before .loop .inv .1) (c .loop-test .left)

@@ -1,3 +1,4 @@
+-- `lowest_wrong` meets its contract: the lowest wrong block of all is the lowest from b on. Assumes nothing.
 use Prim.Native.Nat.{_-_}
 use mathlib.Core.Path.{sym, _∙_, _≡_}
 use borrow.Author.Needs.{needs}

@@ -1,3 +1,4 @@
+-- `next_below` meets its contract: its tests are the definition's, of the states that the image holds. Assumes nothing.
 use native.Mathlib.Omega.{arith}
 use borrow.Author.Needs.{needs}
 use Rattle.layout.proofs.Names.{next-unused, next-leads, next-zero}

@@ -1,3 +1,4 @@
+-- `next_to_examine` meets its contract: it goes past zeros only behind the header and with a target fence. Assumes nothing.
 use borrow.Author.Needs.{needs}
 use Rattle.layout.proofs.Zeros.{skips-none, some-fence}
 use Rattle.layout.proofs.verdict.next_to_examine.Statement.{statement}

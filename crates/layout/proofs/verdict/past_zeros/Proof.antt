@@ -1,7 +1,8 @@
+-- `past_zeros` meets its contract: every byte passed is a zero, which is not barred there. Assumes nothing.
 use Prim.Native.Nat.{_-_}
 use borrow.Author.Needs.{needs}
 use lib.ListN.{length}
-use Rattle.layout.specs.Barred.{Skips}
+use Rattle.layout.specs.inner.Skipping.{Skips}
 use Rattle.layout.proofs.Zeros.{skips-none, skips-zero}
 use Rattle.layout.proofs.verdict.past_zeros.Statement.{statement}
 use Rattle.layout.proofs.verdict.past_zeros.Tie as tie
