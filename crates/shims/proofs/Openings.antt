@@ -39,8 +39,8 @@ opens (WayRead.Is way) upstream target e = by-upstream (reading upstream .verdic
     both : Opening
     both = opening (record { way = way; upstream = up; target = reading target .model })
 
-    by-target : (v : Verdict) → reading upstream .verdict ≡ Verdict.Accepted → reading target .verdict ≡ v → onVerdict v both .verdict ≡ Verdict.Accepted
-        → Opens (WayRead.Is way) upstream target (onVerdict v both .models)
+    by-target : (v : Verdict) → reading upstream .verdict ≡ Verdict.Accepted → reading target .verdict ≡ v
+        → onVerdict v both .verdict ≡ Verdict.Accepted → Opens (WayRead.Is way) upstream target (onVerdict v both .models)
     by-target Verdict.Accepted u t e = record { way-read = refl; upstream-read = accepts u; target-read = accepts t }
     by-target (Verdict.Refused why) u t e = differ (cc)
 
@@ -55,7 +55,10 @@ pub opens-so : {read : WayRead} {upstream target : List ℕ} {models : Models} �
 opens-so {read} {upstream} {target} {models} o =
     ap (λ (r : WayRead). openedBy r upstream target) (o .way-read)
     ∙ ap (λ (r : Reading). onReading r λ (u : Model). onTarget (models .way) u target) (o .upstream-read)
-    ∙ ap (λ (r : Reading). onReading r λ (t : Model). opening (record { way = models .way; upstream = models .upstream; target = t })) (o .target-read)
+    ∙ ap (λ (r : Reading). onReading r with-target) (o .target-read)
+  where
+    with-target : Model → Opening
+    with-target t = opening (record { way = models .way; upstream = models .upstream; target = t })
 
 -- A model that was read has at most sixteen fences.
 few : {t : List ℕ} {r : Reading} → Told t r → r .verdict ≡ Verdict.Accepted → r .model .fences ≤ 16

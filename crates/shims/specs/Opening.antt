@@ -1,5 +1,5 @@
--- Document 01: "Order: way ..; upstream text (1, 2, 3); target text; ..", and 12: "a way .. is out of range". A way's number is that of an image, "the
--- way (0 sparing, 1 full)".
+-- Document 01: "Order: way ..; upstream text (1, 2, 3); target text; ..", and 12: "a way .. is out of range". A way's number is that of an
+-- image, "the way (0 sparing, 1 full)".
 use Prim.Native.Nat.{ℕ}
 use mathlib.Core.Path.{_≡_}
 use mathlib.Core.Bool.{cond}
