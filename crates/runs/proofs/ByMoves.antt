@@ -38,7 +38,8 @@ module _ (way : Way) (up target : Model) where
   by-step at b k f ops more e h (Step.Plain next) =
       outcome-behind at (access k) (steps way up target next ops) f ∙ ap₂ (λ (c : ℕ) (x : Given). ahead (c ∷ []) x) e (h next)
   by-step at b k f ops more e h (Step.Fenced g next) =
-      outcome-behind at (fence g ++ access k) (steps way up target next ops) f ∙ ap₂ (λ (c : ℕ) (x : Given). ahead (fenceByte g ∷ c ∷ []) x) e (h next)
+      outcome-behind at (fence g ++ access k) (steps way up target next ops) f
+      ∙ ap₂ (λ (c : ℕ) (x : Given). ahead (fenceByte g ∷ c ∷ []) x) e (h next)
   by-step at b k f ops more e h Step.Refused =
       let z : at + 0 ≡ at = omega arith in
       ap (λ (m : ℕ). refuses (Refusal.NoFenceWillDo m)) z
@@ -66,5 +67,6 @@ module _ (way : Way) (up target : Model) where
   pub direct-moves : (bytes : List ℕ) → direct way up target bytes ≡ moves way up target fresh 0 bytes
   unfolding direct
   direct-moves bytes =
-      ap (λ (x : Ran). outcomeOf 0 x (fault (length (up .fences)) 0 bytes)) (steps-are-the-rule way up target (operations (length (up .fences)) 0 bytes))
+      ap (λ (x : Ran). outcomeOf 0 x (fault (length (up .fences)) 0 bytes))
+      (steps-are-the-rule way up target (operations (length (up .fences)) 0 bytes))
       ∙ from-here bytes fresh 0

@@ -31,8 +31,8 @@ enum Move {
 
 // How far a run has come: the situation, and how many bytes are put out.
 struct Progress {
-    pub situation: Situation,
-    pub written: usize,
+    situation: Situation,
+    written: usize,
 }
 
 enum Turn {
@@ -47,7 +47,7 @@ enum Ended {
 }
 
 // How many of these bytes are fences.
-pub fn fences_in(bytes: &[u8]) -> usize
+fn fences_in(bytes: &[u8]) -> usize
     ensures { λ r. ⌜ r ≡ fenceBytes (now (bytes .entry)) ⌝ }
 {
     let mut n = 0;
@@ -199,7 +199,8 @@ fn run_within<'a>(
     out: &mut [u8],
 ) -> Answer
     requires { ⌜ length (now stream) ≤ 4096 ⌝ }
-    ensures { λ r. ⌜ Delivers (forShim direct shim (now (fences .entry)) (now (targets .entry)) (now (stream .entry))) (now (out .entry)) r (now (out .exit)) ⌝ }
+    ensures { λ r. ⌜ Delivers (forShim direct shim (now (fences .entry)) (now (targets .entry)) (now (stream .entry)))
+        (now (out .entry)) r (now (out .exit)) ⌝ }
 {
     let mut buffer = [0u8; 8192];
     let ended = run_stream(shim, fences, targets, stream, &mut buffer);
@@ -231,7 +232,8 @@ pub fn run<'a>(
     stream: &'a [u8],
     out: &mut [u8],
 ) -> Answer
-    ensures { λ r. ⌜ Delivers (outcome way (now (upstream .entry)) (now (target .entry)) (now (stream .entry))) (now (out .entry)) r (now (out .exit)) ⌝ }
+    ensures { λ r. ⌜ Delivers (outcome way (now (upstream .entry)) (now (target .entry)) (now (stream .entry)))
+        (now (out .entry)) r (now (out .exit)) ⌝ }
 {
     let opening = shims::read_both(way, upstream, target);
     let verdict = opening.verdict;

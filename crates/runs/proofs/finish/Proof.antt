@@ -21,7 +21,8 @@ done-given : (buffer : List ℕ) {e : Ended} {n f : ℕ} {out after : List ℕ} 
 done-given buffer {n = n} e is d =
     delivers-as (ap (λ (k : ℕ). gives (take n buffer) k 0) is ∙ ap (λ (x : Ended). given x buffer) (sym e)) d
 
-refused-given : (buffer : List ℕ) {e : Ended} {why : Refusal} {out : List ℕ} → e ≡ Ended.Refused why → Delivers (given e buffer) out (Answer.Refused why) out
+refused-given : (buffer : List ℕ) {e : Ended} {why : Refusal} {out : List ℕ} → e ≡ Ended.Refused why
+    → Delivers (given e buffer) out (Answer.Refused why) out
 refused-given buffer {out = out} e = delivers-as (ap (λ (x : Ended). given x buffer) (sym e)) (delivers-refusal out)
 
 enum-known-ended : tie.Need-enum-known-ended
