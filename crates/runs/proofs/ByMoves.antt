@@ -1,11 +1,12 @@
--- The direct run byte by byte is the direct run by the rule. Assumes nothing.
+-- The direct run byte by byte is the direct run by the rule: each byte does what its operation does, and a fault ends both. Assumes nothing.
 use Prim.Native.Nat.{ℕ, suc, _+_}
-use mathlib.Core.Path.{_≡_, refl, ap, ap₂, _∙_}
+use mathlib.Core.Path.{_≡_, refl, sym, ap, ap₂, _∙_}
 use mathlib.Core.List.{List, [], _∷_, _++_, map, map-append}
 use mathlib.Core.Option.{Option, none, some}
 use native.Mathlib.Omega.{arith}
 use lib.ListN.{length}
 use Rattle.answers.specs.declared.Refusal.{Refusal}
+use Rattle.answers.specs.Given.{Given, refuses}
 use Rattle.operations.specs.declared.Kind.{Kind}
 use Rattle.operations.specs.declared.Operation.{Operation}
 use Rattle.operations.specs.Operation.{accessByte, fenceByte, byteOf}
@@ -17,35 +18,33 @@ use Rattle.rule.specs.Pairs.{Model, fenceTable}
 use Rattle.rule.specs.Rule.{Ran, done, refused, behind}
 use Rattle.rule.specs.Situation.{asks, fresh, stepped, resumed, steps}
 use Rattle.rule.proofs.Theorems.{steps-are-the-rule}
-use Rattle.runs.specs.Bytes.{Judged, good, bad, judged, operations, operationsFrom, fault, faultFrom, Outcome, put, refuse, outcomeOf, direct}
-use Rattle.runs.specs.Moves.{movedBy, movedAs, ahead, movesOn, moves}
+use Rattle.runs.specs.Bytes.{Judged, good, bad, judged, operations, operationsFrom, fault, faultFrom, puts, outcomeOf, direct}
+use Rattle.runs.specs.inner.Moves.{movedBy, movedAs, ahead, movesOn, moves}
+use Rattle.runs.proofs.Ahead.{ahead-none, ahead-puts}
 use Rattle.runs.proofs.Judging.{good-byte}
-
-pub ahead-none : (x : Outcome) → ahead [] x ≡ x
-ahead-none (put bytes) = refl
-ahead-none (refuse why) = refl
 
 -- what was put out before a run comes before its bytes, and its refusals are one further on
 outcome-behind : (at : ℕ) (p : Stream) (x : Ran) (f : Option Refusal) → outcomeOf at (behind p x) f ≡ ahead (map byteOf p) (outcomeOf (suc at) x f)
 outcome-behind at p (refused i) f =
     let e : at + suc i ≡ suc at + i = omega arith in
-    ap (λ (n : ℕ). refuse (Refusal.NoFenceWillDo n)) e
-outcome-behind at p (done out) none = ap put (map-append byteOf p out)
+    ap (λ (n : ℕ). refuses (Refusal.NoFenceWillDo n)) e
+outcome-behind at p (done out) none = ap puts (map-append byteOf p out) ∙ sym (ahead-puts (map byteOf p) (map byteOf out))
 outcome-behind at p (done out) (some why) = refl
 
 module _ (way : Way) (up target : Model) where
-  by-step : (at b : ℕ) (k : Kind) (f : Option Refusal) (ops : Stream) (more : Situation → Outcome) → accessByte k ≡ b
+  by-step : (at b : ℕ) (k : Kind) (f : Option Refusal) (ops : Stream) (more : Situation → Given) → accessByte k ≡ b
       → ((s : Situation) → outcomeOf (suc at) (steps way up target s ops) f ≡ more s) → (x : Step)
       → outcomeOf at (resumed k (λ (next : Situation). steps way up target next ops) x) f ≡ movesOn b more (movedBy at x)
   by-step at b k f ops more e h (Step.Plain next) =
-      outcome-behind at (access k) (steps way up target next ops) f ∙ ap₂ (λ (c : ℕ) (x : Outcome). ahead (c ∷ []) x) e (h next)
+      outcome-behind at (access k) (steps way up target next ops) f ∙ ap₂ (λ (c : ℕ) (x : Given). ahead (c ∷ []) x) e (h next)
   by-step at b k f ops more e h (Step.Fenced g next) =
-      outcome-behind at (fence g ++ access k) (steps way up target next ops) f ∙ ap₂ (λ (c : ℕ) (x : Outcome). ahead (fenceByte g ∷ c ∷ []) x) e (h next)
+      outcome-behind at (fence g ++ access k) (steps way up target next ops) f
+      ∙ ap₂ (λ (c : ℕ) (x : Given). ahead (fenceByte g ∷ c ∷ []) x) e (h next)
   by-step at b k f ops more e h Step.Refused =
       let z : at + 0 ≡ at = omega arith in
-      ap (λ (m : ℕ). refuse (Refusal.NoFenceWillDo m)) z
+      ap (λ (m : ℕ). refuses (Refusal.NoFenceWillDo m)) z
 
-  by-judged : (s : Situation) (at b : ℕ) (f : Option Refusal) (ops : Stream) (more : Situation → Outcome)
+  by-judged : (s : Situation) (at b : ℕ) (f : Option Refusal) (ops : Stream) (more : Situation → Given)
       → ((s : Situation) → outcomeOf (suc at) (steps way up target s ops) f ≡ more s) → (j : Judged) → judged (length (up .fences)) at b ≡ j
       → outcomeOf at (steps way up target s (operationsFrom j ops)) (faultFrom j f) ≡ movesOn b more (movedAs way up target s at j)
   unfolding steps
@@ -68,5 +67,6 @@ module _ (way : Way) (up target : Model) where
   pub direct-moves : (bytes : List ℕ) → direct way up target bytes ≡ moves way up target fresh 0 bytes
   unfolding direct
   direct-moves bytes =
-      ap (λ (x : Ran). outcomeOf 0 x (fault (length (up .fences)) 0 bytes)) (steps-are-the-rule way up target (operations (length (up .fences)) 0 bytes))
+      ap (λ (x : Ran). outcomeOf 0 x (fault (length (up .fences)) 0 bytes))
+      (steps-are-the-rule way up target (operations (length (up .fences)) 0 bytes))
       ∙ from-here bytes fresh 0

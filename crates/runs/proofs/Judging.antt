@@ -1,4 +1,4 @@
--- What a byte of a stream is, and that it is that operation's byte. Assumes nothing.
+-- A byte that is an operation is that operation's byte: writing what was read gives it back. Assumes nothing.
 use Prim.Native.Nat.{ℕ}
 use mathlib.Core.Path.{_≡_, refl, sym, ap, _∙_}
 use mathlib.Core.Bool.{Bool, true, false, cond}
@@ -11,11 +11,11 @@ use Rattle.operations.specs.Operation.{byteIs, byteOf}
 use Rattle.operations.proofs.Bytes.{written-read}
 use Rattle.runs.specs.Bytes.{good, bad, judgedAs, judged}
 
--- a byte that is an operation is that operation's byte
 pub good-byte : (n at b : ℕ) (op : Operation) → judged n at b ≡ good op → byteOf op ≡ b
 good-byte n at b op e = is (byteIs b) refl
   where
-    tested : (t : Bool) (f : ℕ) → byteIs b ≡ Byte.Is (Operation.Fence f) → cond t (good (Operation.Fence f)) (bad (Refusal.NoSuchFence at)) ≡ good op → byteOf op ≡ b
+    tested : (t : Bool) (f : ℕ) → byteIs b ≡ Byte.Is (Operation.Fence f)
+        → cond t (good (Operation.Fence f)) (bad (Refusal.NoSuchFence at)) ≡ good op → byteOf op ≡ b
     tested true f h z =
         let m : Operation.Fence f ≡ op = cc in
         sym (ap byteOf m) ∙ written-read b (Operation.Fence f) h

@@ -1,5 +1,5 @@
--- The theorems of the call: what an accepted call has done, for every way, texts, stream and buffer. They cite the theorems of `rule`.
--- Assumes nothing.
+-- The theorems of the call: what a call has done that puts bytes out, for every way, texts, stream and buffer. Its stages have all gone on, and the
+-- rest is said by the theorems of `rule`. Assumes nothing.
 use Prim.Native.Nat.{ℕ, suc, _≤_, _<_}
 use mathlib.Core.Path.{_≡_, refl, sym, ap, ap₂, _∙_}
 use mathlib.Core.Bool.{Bool, true, false, cond}
@@ -11,6 +11,7 @@ use lib.ListN.{length}
 use Rattle.ground.proofs.Truths.{differ}
 use Rattle.answers.specs.declared.Refusal.{Refusal}
 use Rattle.answers.specs.declared.Verdict.{Verdict}
+use Rattle.answers.specs.Given.{Given, refuses}
 use Rattle.operations.specs.Operation.{byteOf}
 use Rattle.rule.specs.declared.way.Way.{Way}
 use Rattle.rule.specs.Stream.{Stream, fence, accesses, count, kindAt, fences, before, through}
@@ -19,24 +20,13 @@ use Rattle.rule.specs.Rule.{Ran, done, refused, run, Placing}
 use Rattle.rule.proofs.Choices.{Takes}
 use Rattle.rule.proofs.Kept.{Settled}
 use Rattle.rule.proofs.Theorems.{same-accesses, every-pair-kept, fence-exactly-when, nothing-at-the-end, fewest-fences}
-use Rattle.models.specs.Reading.{reading}
+use Rattle.shims.specs.Models.{modelOf}
+use Rattle.shims.specs.Opening.{wayOf, opened, unlessRefused}
+use Rattle.shims.proofs.Openings.{opens}
 use Rattle.runs.proofs.Judging.{good-byte}
-use Rattle.runs.specs.declared.WayRead.{WayRead}
-use Rattle.runs.specs.Bytes.{Judged, good, bad, judged, operations, operationsFrom, fault, faultFrom, Outcome, put, refuse, outcomeOf, direct}
-use Rattle.runs.specs.Call.{wayOf, modelOf, onWay, onVerdict, onStream, onto, under, outcome}
-
--- a call that puts bytes out: its way, its two models as the rule sees them, the operations that its stream and its output are, and the run
-pub record Accepted (number : ℕ) (upstream target stream bytes : List ℕ) : Type 0 where
-  pub way : Way
-  pub numbered : wayOf number ≡ WayRead.Is way
-  pub upstream-read : reading upstream .verdict ≡ Verdict.Accepted
-  pub target-read : reading target .verdict ≡ Verdict.Accepted
-  pub within : length stream ≤ 4096
-  pub input : Stream
-  pub output : Stream
-  pub reads : stream ≡ map byteOf input
-  pub writes : bytes ≡ map byteOf output
-  pub ran : run way (modelOf (reading upstream .model)) (modelOf (reading target .model)) input ≡ done output
+use Rattle.runs.specs.Bytes.{Judged, good, bad, judged, operations, operationsFrom, fault, faultFrom, puts, outcomeOf, direct}
+use Rattle.runs.specs.Call.{onStream, runGiven, outcome}
+use Rattle.runs.specs.DirectRun.{DirectRun}
 
 -- a stream without fault is the bytes of its operations
 faultless : (n at : ℕ) (stream : List ℕ) → fault n at stream ≡ none → map byteOf (operations n at stream) ≡ stream
@@ -48,21 +38,22 @@ faultless n at (b ∷ stream) e = by (judged n at b) refl (λ h. faultless n (su
         → map byteOf (operations n at (b ∷ stream)) ≡ b ∷ stream
     by (good op) h rest =
         ap (λ (x : Judged). map byteOf (operationsFrom x (operations n (suc at) stream))) h
-        ∙ ap₂ (λ (c : ℕ) (l : List ℕ). c ∷ l) (good-byte n at b op h) (rest (sym (ap (λ (x : Judged). faultFrom x (fault n (suc at) stream)) h) ∙ e))
+        ∙ ap₂ (λ (c : ℕ) (l : List ℕ). c ∷ l) (good-byte n at b op h)
+        (rest (sym (ap (λ (x : Judged). faultFrom x (fault n (suc at) stream)) h) ∙ e))
     by (bad why) h rest =
         let z : some why ≡ none = sym (ap (λ (x : Judged). faultFrom x (fault n (suc at) stream)) h) ∙ e in
         differ (cc)
 
 -- a direct run that puts bytes out has no fault, and they are those of its output
-direct-put : (way : Way) (up target : Model) (stream bytes : List ℕ) → direct way up target stream ≡ put bytes
-    → (output : Stream) × (run way up target (operations (length (up .fences)) 0 stream) ≡ done output) × (fault (length (up .fences)) 0 stream ≡ none)
-    × (bytes ≡ map byteOf output)
+direct-put : (way : Way) (up target : Model) (stream bytes : List ℕ) → direct way up target stream ≡ puts bytes
+    → (output : Stream) × (run way up target (operations (length (up .fences)) 0 stream) ≡ done output)
+    × (fault (length (up .fences)) 0 stream ≡ none) × (bytes ≡ map byteOf output)
 unfolding direct
 direct-put way up target stream bytes e =
     by (run way up target (operations (length (up .fences)) 0 stream)) refl (fault (length (up .fences)) 0 stream) refl e
   where
-    by : (r : Ran) → run way up target (operations (length (up .fences)) 0 stream) ≡ r → (f : Option Refusal) → fault (length (up .fences)) 0 stream ≡ f
-        → outcomeOf 0 r f ≡ put bytes
+    by : (r : Ran) → run way up target (operations (length (up .fences)) 0 stream) ≡ r
+        → (f : Option Refusal) → fault (length (up .fences)) 0 stream ≡ f → outcomeOf 0 r f ≡ puts bytes
         → (output : Stream) × (run way up target (operations (length (up .fences)) 0 stream) ≡ done output)
         × (fault (length (up .fences)) 0 stream ≡ none) × (bytes ≡ map byteOf output)
     by (refused i) r f g h = differ (cc)
@@ -71,37 +62,31 @@ direct-put way up target stream bytes e =
 
 -- the stages of a call that puts bytes out have all gone on
 
-way-put : (r : WayRead) (more : Way → Outcome) (bytes : List ℕ) → onWay r more ≡ put bytes → (w : Way) × (r ≡ WayRead.Is w) × (more w ≡ put bytes)
-way-put (WayRead.Is w) more bytes e = (w, refl, e)
-way-put WayRead.Nothing more bytes e = differ (cc)
+opening-put : (v : Verdict) (x : Given) (bytes : List ℕ) → unlessRefused v x ≡ puts bytes → (v ≡ Verdict.Accepted) × (x ≡ puts bytes)
+opening-put Verdict.Accepted x bytes e = (refl, e)
+opening-put (Verdict.Refused why) x bytes e = differ (cc)
 
-verdict-put : (v : Verdict) (x : Outcome) (bytes : List ℕ) → onVerdict v x ≡ put bytes → (v ≡ Verdict.Accepted) × (x ≡ put bytes)
-verdict-put Verdict.Accepted x bytes e = (refl, e)
-verdict-put (Verdict.Refused why) x bytes e = differ (cc)
-
-stream-put : (stream : List ℕ) (x : Outcome) (bytes : List ℕ) → onStream stream x ≡ put bytes → (length stream ≤ 4096) × (x ≡ put bytes)
+stream-put : (stream : List ℕ) (x : Given) (bytes : List ℕ) → onStream stream x ≡ puts bytes → (length stream ≤ 4096) × (x ≡ puts bytes)
 stream-put stream x bytes e = by (ltb 4096 (length stream)) refl e
   where
-    by : (b : Bool) → ltb 4096 (length stream) ≡ b → cond b (refuse Refusal.OverLimit) x ≡ put bytes → (length stream ≤ 4096) × (x ≡ put bytes)
+    by : (b : Bool) → ltb 4096 (length stream) ≡ b → cond b (refuses Refusal.OverLimit) x ≡ puts bytes
+        → (length stream ≤ 4096) × (x ≡ puts bytes)
     by true h z = differ (cc)
     by false h z = (ltb-false 4096 (length stream) h, z)
 
--- An accepted call reads its way, its two models and a stream of operations, and puts out the bytes of the rule's run.
-pub accepted : (number : ℕ) (upstream target stream bytes : List ℕ) → outcome number upstream target stream ≡ put bytes
-    → Accepted number upstream target stream bytes
-accepted number upstream target stream bytes e =
-    let w = way-put (wayOf number) (λ (w : Way). under w upstream target stream) bytes e in
-    let up = modelOf (reading upstream .model) in
-    let on = modelOf (reading target .model) in
-    let u = verdict-put (reading upstream .verdict) (onto (w .0) up target stream) bytes (w .2) in
-    let t = verdict-put (reading target .verdict) (onStream stream (direct (w .0) up on stream)) bytes (u .1) in
-    let s = stream-put stream (direct (w .0) up on stream) bytes (t .1) in
-    let d = direct-put (w .0) up on stream bytes (s .1) in
+-- A call that puts bytes out has read its way, its two models and a stream of operations, and the bytes are those of the rule's run.
+pub direct-run : (number : ℕ) (upstream target stream bytes : List ℕ) → outcome number upstream target stream ≡ puts bytes
+    → DirectRun number upstream target stream bytes
+direct-run number upstream target stream bytes e =
+    let m = opened number upstream target .models in
+    let up = modelOf (m .upstream) in
+    let on = modelOf (m .target) in
+    let o = opening-put (opened number upstream target .verdict) (runGiven m stream) bytes e in
+    let s = stream-put stream (direct (m .way) up on stream) bytes (o .1) in
+    let d = direct-put (m .way) up on stream bytes (s .1) in
     record {
-      way = w .0;
-      numbered = w .1;
-      upstream-read = u .0;
-      target-read = t .0;
+      models = m;
+      opens = opens (wayOf number) upstream target (o .0);
       within = s .0;
       input = operations (length (up .fences)) 0 stream;
       output = d .0;
@@ -110,36 +95,40 @@ accepted number upstream target stream bytes e =
       ran = d .1;
     }
 
-module _ {number : ℕ} {upstream target stream bytes : List ℕ} (call : Accepted number upstream target stream bytes) where
+module _ {number : ℕ} {upstream target stream bytes : List ℕ} (call : DirectRun number upstream target stream bytes) where
+  abbrev way : Way
+  way = call .models .way
+
   abbrev up : Model
-  up = modelOf (reading upstream .model)
+  up = modelOf (call .models .upstream)
 
   abbrev on : Model
-  on = modelOf (reading target .model)
+  on = modelOf (call .models .target)
 
   -- The accesses that a call puts out are those that it was given, in order.
   pub call-accesses : accesses (call .output) ≡ accesses (call .input)
-  call-accesses = same-accesses (call .way) up on (call .input) (call .output) (call .ran)
+  call-accesses = same-accesses way up on (call .input) (call .output) (call .ran)
 
   -- Every pair is kept.
   pub call-keeps : Keeps up on (call .input) (call .output)
-  call-keeps = every-pair-kept (call .way) up on (call .input) (call .output) (call .ran)
+  call-keeps = every-pair-kept way up on (call .input) (call .output) (call .ran)
 
   -- A fence stands before an access exactly when a pair that ends there would otherwise be short, and it is the one that the way takes.
   pub call-fences : (j : ℕ) → j < count (call .input)
-      → (Settled up on (before j (call .input)) (through j (call .output)) (kindAt (call .input) j) → before j (call .output) ≡ through j (call .output))
+      → (Settled up on (before j (call .input)) (through j (call .output)) (kindAt (call .input) j)
+      → before j (call .output) ≡ through j (call .output))
       × ((Settled up on (before j (call .input)) (through j (call .output)) (kindAt (call .input) j) → ⊥)
       → (g : ℕ) × (before j (call .output) ≡ through j (call .output) ++ fence g)
-      × Takes (call .way) (λ (h : ℕ). settled up on (before j (call .input)) (through j (call .output) ++ fence h) (kindAt (call .input) j))
+      × Takes way (λ (h : ℕ). settled up on (before j (call .input)) (through j (call .output) ++ fence h) (kindAt (call .input) j))
       (length (on .fences)) g)
-  call-fences = fence-exactly-when (call .way) up on (call .input) (call .output) (call .ran)
+  call-fences = fence-exactly-when way up on (call .input) (call .output) (call .ran)
 
   -- Nothing is put behind the last access.
   pub call-ends : through (count (call .output)) (call .output) ≡ call .output
-  call-ends = nothing-at-the-end (call .way) up on (call .input) (call .output) (call .ran)
+  call-ends = nothing-at-the-end way up on (call .input) (call .output) (call .ran)
 
   -- Demand 3. In the full way no placing of the target's fences among the same accesses that keeps every pair has fewer.
-  pub call-fewest : call .way ≡ Way.Full → (other : Stream) → Placing on (call .input) other → Keeps up on (call .input) other
+  pub call-fewest : way ≡ Way.Full → (other : Stream) → Placing on (call .input) other → Keeps up on (call .input) other
       → fences (call .output) ≤ fences other
   call-fewest full other p h =
       fewest-fences up on (call .input) (call .output) (sym (ap (λ (w : Way). run w up on (call .input)) full) ∙ call .ran) other p h

@@ -8,6 +8,7 @@ use mathlib.Core.Option.{Option, none, some}
 use lib.Dec.{ltb}
 use lib.ListN.{length}
 use Rattle.answers.specs.declared.Refusal.{Refusal}
+use Rattle.answers.specs.Given.{Given, gives, refuses}
 use Rattle.operations.specs.declared.Operation.{Operation}
 use Rattle.operations.specs.declared.Byte.{Byte}
 use Rattle.operations.specs.Operation.{byteIs, byteOf}
@@ -46,22 +47,6 @@ unfoldable pub fault : ℕ → ℕ → List ℕ → Option Refusal
 fault n at [] = none
 fault n at (b ∷ bytes) = faultFrom (judged n at b) (fault n (suc at) bytes)
 
--- what a call has to give: bytes to write, or a refusal
-pub data Outcome : Type 0 where
-  put : List ℕ → Outcome
-  refuse : Refusal → Outcome
-
--- a run of operations that began at an index of the input, with the fault that ended them
-abbrev pub outcomeOf : ℕ → Ran → Option Refusal → Outcome
-outcomeOf at (refused i) f = refuse (Refusal.NoFenceWillDo (at + i))
-outcomeOf at (done out) none = put (map byteOf out)
-outcomeOf at (done out) (some why) = refuse why
-
--- the direct run of a stream of bytes, by the rule
-unfoldable pub direct : Way → Model → Model → List ℕ → Outcome
-direct way up target bytes =
-    outcomeOf 0 (run way up target (operations (length (up .fences)) 0 bytes)) (fault (length (up .fences)) 0 bytes)
-
 -- how many bytes of an output are fences
 abbrev pub isFence : Byte → ℕ
 isFence Byte.Nothing = 0
@@ -71,3 +56,18 @@ isFence (Byte.Is (Operation.Fence n)) = 1
 unfoldable pub fenceBytes : List ℕ → ℕ
 fenceBytes [] = 0
 fenceBytes (b ∷ bytes) = isFence (byteIs b) + fenceBytes bytes
+
+-- what a direct run gives that puts these bytes out: their fences are counted, and there is no end state to tell
+abbrev pub puts : List ℕ → Given
+puts bytes = gives bytes (fenceBytes bytes) 0
+
+-- a run of operations that began at an index of the input, with the fault that ended them
+abbrev pub outcomeOf : ℕ → Ran → Option Refusal → Given
+outcomeOf at (refused i) f = refuses (Refusal.NoFenceWillDo (at + i))
+outcomeOf at (done out) none = puts (map byteOf out)
+outcomeOf at (done out) (some why) = refuses why
+
+-- the direct run of a stream of bytes, by the rule
+unfoldable pub direct : Way → Model → Model → List ℕ → Given
+direct way up target bytes =
+    outcomeOf 0 (run way up target (operations (length (up .fences)) 0 bytes)) (fault (length (up .fences)) 0 bytes)

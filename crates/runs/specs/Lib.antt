@@ -1,4 +1,4 @@
 pub mod Bytes
 pub mod Call
-pub mod Marked
-pub mod Moves
+pub mod DirectRun
+pub mod inner

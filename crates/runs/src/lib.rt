@@ -1,39 +1,28 @@
 // The direct run: two model texts, a way, a stream and a buffer.
 ghost use Prim.Native.Nat.{_+_, _≤_, _<_};
 ghost use mathlib.Core.Path.{_≡_};
-ghost use lib.ListN.{length, take};
+ghost use lib.ListN.{length};
+ghost use Rattle.answers.specs.Given.{Delivers};
 ghost use Rattle.operations.specs.Operation.{byteIs};
+ghost use Rattle.rule.specs.Sides.{targetOf};
 ghost use Rattle.rule.specs.Situation.{fresh, stepped};
 ghost use Rattle.runs.specs.Bytes.{isFence, fenceBytes, direct};
-ghost use Rattle.runs.specs.Call.{wayOf, modelOf, Whole, onStream, onto, under, outcome, answerOf, bufferOf};
-ghost use Rattle.runs.specs.Moves.{moved, moves, turned, laid, side, movedBy, asked, given, Fits, Ends};
+ghost use Rattle.runs.specs.Call.{runGiven, outcome};
+ghost use Rattle.runs.specs.inner.Laying.{turned, laid, given, Fits, Ends};
+ghost use Rattle.runs.specs.inner.Moves.{moved, moves, movedBy, asked, forShim};
 use answers::Answer;
 use answers::Refusal;
 use answers::Verdict;
-use models::model::Model;
 use operations::Byte;
 use operations::Kind;
 use operations::Operation;
 use rule::situation::Situation;
+use rule::way::Shim;
 use rule::way::Step;
-use rule::way::Way;
-use tables::table::Table;
-
-// What a way number names.
-pub enum WayRead {
-    Is(Way),
-    Nothing,
-}
-
-// What stays the same through a run, but for the fences' tables: the way and the two defaults.
-pub struct Shim {
-    pub way: Way,
-    pub upstream: Table,
-    pub target: Table,
-}
+use shims::Models;
 
 // What one byte of a stream does: it is passed over, put out with nothing or with a fence before it, or refused.
-pub enum Move {
+enum Move {
     Silent(Situation),
     Plain(Situation),
     Fenced(usize, Situation),
@@ -41,34 +30,24 @@ pub enum Move {
 }
 
 // How far a run has come: the situation, and how many bytes are put out.
-pub struct Progress {
-    pub situation: Situation,
-    pub written: usize,
+struct Progress {
+    situation: Situation,
+    written: usize,
 }
 
-pub enum Turn {
+enum Turn {
     On(Progress),
     Stop(Refusal),
 }
 
 // How a run of a stream ends: so many bytes are put out, or it is refused.
-pub enum Ended {
+enum Ended {
     Done(usize),
     Refused(Refusal),
 }
 
-pub fn way_of(number: u64) -> WayRead
-    ensures { λ r. ⌜ r ≡ wayOf number ⌝ }
-{
-    match number {
-        0 => WayRead::Is(Way::Sparing),
-        1 => WayRead::Is(Way::Full),
-        _ => WayRead::Nothing,
-    }
-}
-
 // How many of these bytes are fences.
-pub fn fences_in(bytes: &[u8]) -> usize
+fn fences_in(bytes: &[u8]) -> usize
     ensures { λ r. ⌜ r ≡ fenceBytes (now (bytes .entry)) ⌝ }
 {
     let mut n = 0;
@@ -94,11 +73,10 @@ fn one_if_fence(byte: u8) -> usize
 }
 
 // What an access does, at its index.
-fn access<'a>(shim: Shim, targets: &'a [u64], situation: Situation, at: usize, kind: Kind) -> Move
-    ensures { λ r. ⌜ r ≡ movedBy at (stepped (shim .way) (shim .upstream) (side (shim .target) (now (targets .entry))) situation kind) ⌝ }
+fn access(shim: Shim, targets: &[u64], situation: Situation, at: usize, kind: Kind) -> Move
+    ensures { λ r. ⌜ r ≡ movedBy at (stepped (shim .way) (shim .upstream) (targetOf shim (now (targets .entry))) situation kind) ⌝ }
 {
-    let way = shim.way;
-    let step = rule::way::take(way, shim.upstream, shim.target, targets, situation, kind);
+    let step = rule::way::take(shim, targets, situation, kind);
     match step {
         Step::Plain(next) => Move::Plain(next),
         Step::Fenced(g, next) => Move::Fenced(g, next),
@@ -126,7 +104,7 @@ fn advance<'a>(
     at: usize,
     byte: u8,
 ) -> Move
-    ensures { λ r. ⌜ r ≡ moved (shim .way) (side (shim .upstream) (now (fences .entry))) (side (shim .target) (now (targets .entry))) situation at byte ⌝ }
+    ensures { λ r. ⌜ r ≡ forShim moved shim (now (fences .entry)) (now (targets .entry)) situation at byte ⌝ }
 {
     let read = operations::read_byte(byte);
     match read {
@@ -177,7 +155,7 @@ fn run_stream<'a>(
     buffer: &mut [u8],
 ) -> Ended
     requires { ⌜ (length (now stream) ≤ 4096) × (length (now buffer) ≡ 8192) ⌝ }
-    ensures { λ r. ⌜ Ends (moves (shim .way) (side (shim .upstream) (now (fences .entry))) (side (shim .target) (now (targets .entry))) fresh 0 (now (stream .entry))) r (now (buffer .exit)) ⌝ }
+    ensures { λ r. ⌜ Ends (forShim moves shim (now (fences .entry)) (now (targets .entry)) fresh 0 (now (stream .entry))) r (now (buffer .exit)) ⌝ }
 {
     let mut situation = Situation::FRESH;
     let mut written = 0;
@@ -201,8 +179,7 @@ fn run_stream<'a>(
 // Writes out what a run has laid, or passes its refusal on.
 fn finish(ended: Ended, buffer: &[u8], out: &mut [u8]) -> Answer
     requires { ⌜ Fits ended (now buffer) ⌝ }
-    ensures answer { λ r. ⌜ r ≡ answerOf (given ended (now (buffer .entry))) (length (now (out .entry))) ⌝ }
-    ensures buffer { λ _. ⌜ now (out .exit) ≡ bufferOf (given ended (now (buffer .entry))) (now (out .entry)) ⌝ }
+    ensures { λ r. ⌜ Delivers (given ended (now (buffer .entry))) (now (out .entry)) r (now (out .exit)) ⌝ }
 {
     match ended {
         Ended::Done(written) => {
@@ -222,79 +199,29 @@ fn run_within<'a>(
     out: &mut [u8],
 ) -> Answer
     requires { ⌜ length (now stream) ≤ 4096 ⌝ }
-    ensures answer { λ r. ⌜ r ≡ answerOf (direct (shim .way) (side (shim .upstream) (now (fences .entry))) (side (shim .target) (now (targets .entry))) (now (stream .entry))) (length (now (out .entry))) ⌝ }
-    ensures buffer { λ _. ⌜ now (out .exit) ≡ bufferOf (direct (shim .way) (side (shim .upstream) (now (fences .entry))) (side (shim .target) (now (targets .entry))) (now (stream .entry))) (now (out .entry)) ⌝ }
+    ensures { λ r. ⌜ Delivers (forShim direct shim (now (fences .entry)) (now (targets .entry)) (now (stream .entry)))
+        (now (out .entry)) r (now (out .exit)) ⌝ }
 {
     let mut buffer = [0u8; 8192];
     let ended = run_stream(shim, fences, targets, stream, &mut buffer);
     finish(ended, &buffer, out)
 }
 
-// The run over two models that were read.
-fn run_models(way: Way, upstream: Model, target: Model, stream: &[u8], out: &mut [u8]) -> Answer
-    requires { ⌜ Whole upstream × Whole target ⌝ }
-    ensures answer { λ r. ⌜ r ≡ answerOf (onStream (now (stream .entry)) (direct way (modelOf upstream) (modelOf target) (now (stream .entry)))) (length (now (out .entry))) ⌝ }
-    ensures buffer { λ _. ⌜ now (out .exit) ≡ bufferOf (onStream (now (stream .entry)) (direct way (modelOf upstream) (modelOf target) (now (stream .entry)))) (now (out .entry)) ⌝ }
+// The run over two models, as they were read or made.
+pub fn run_models(models: Models, stream: &[u8], out: &mut [u8]) -> Answer
+    ensures { λ r. ⌜ Delivers (runGiven models (now (stream .entry))) (now (out .entry)) r (now (out .exit)) ⌝ }
 {
     if 4096 < stream.len() {
         return Answer::Refused(Refusal::OverLimit);
     }
-    let fences = upstream.tables;
-    let n = upstream.fences;
-    let targets = target.tables;
-    let k = target.fences;
-    let defaults = upstream.ppo;
-    let offered = target.ppo;
-    let shim = Shim {
-        way,
-        upstream: defaults,
-        target: offered,
-    };
-    run_within(shim, &fences[..n], &targets[..k], stream, out)
-}
-
-// The run onto a target's text, with the upstream model read.
-fn run_onto<'a>(
-    way: Way,
-    upstream: Model,
-    target: &'a [u8],
-    stream: &'a [u8],
-    out: &mut [u8],
-) -> Answer
-    requires { ⌜ Whole upstream ⌝ }
-    ensures answer { λ r. ⌜ r ≡ answerOf (onto way (modelOf upstream) (now (target .entry)) (now (stream .entry))) (length (now (out .entry))) ⌝ }
-    ensures buffer { λ _. ⌜ now (out .exit) ≡ bufferOf (onto way (modelOf upstream) (now (target .entry)) (now (stream .entry))) (now (out .entry)) ⌝ }
-{
-    let reading = models::reader::read(target);
-    let verdict = reading.verdict;
-    match verdict {
-        Verdict::Refused(why) => Answer::Refused(why),
-        Verdict::Accepted => {
-            let model = reading.model;
-            run_models(way, upstream, model, stream, out)
-        }
-    }
-}
-
-fn run_under<'a>(
-    way: Way,
-    upstream: &'a [u8],
-    target: &'a [u8],
-    stream: &'a [u8],
-    out: &mut [u8],
-) -> Answer
-    ensures answer { λ r. ⌜ r ≡ answerOf (under way (now (upstream .entry)) (now (target .entry)) (now (stream .entry))) (length (now (out .entry))) ⌝ }
-    ensures buffer { λ _. ⌜ now (out .exit) ≡ bufferOf (under way (now (upstream .entry)) (now (target .entry)) (now (stream .entry))) (now (out .entry)) ⌝ }
-{
-    let reading = models::reader::read(upstream);
-    let verdict = reading.verdict;
-    match verdict {
-        Verdict::Refused(why) => Answer::Refused(why),
-        Verdict::Accepted => {
-            let model = reading.model;
-            run_onto(way, model, target, stream, out)
-        }
-    }
+    let shim = shims::shim_between(models);
+    let upstream = models.upstream;
+    let ups = upstream.tables;
+    let fences = shims::fences_of(&ups, upstream.fences);
+    let target = models.target;
+    let offers = target.tables;
+    let targets = shims::fences_of(&offers, target.fences);
+    run_within(shim, fences, targets, stream, out)
 }
 
 // The direct run of a stream: two model texts, a way by its number, the stream, and the buffer that gets the output.
@@ -305,12 +232,14 @@ pub fn run<'a>(
     stream: &'a [u8],
     out: &mut [u8],
 ) -> Answer
-    ensures answer { λ r. ⌜ r ≡ answerOf (outcome way (now (upstream .entry)) (now (target .entry)) (now (stream .entry))) (length (now (out .entry))) ⌝ }
-    ensures buffer { λ _. ⌜ now (out .exit) ≡ bufferOf (outcome way (now (upstream .entry)) (now (target .entry)) (now (stream .entry))) (now (out .entry)) ⌝ }
+    ensures { λ r. ⌜ Delivers (outcome way (now (upstream .entry)) (now (target .entry)) (now (stream .entry)))
+        (now (out .entry)) r (now (out .exit)) ⌝ }
 {
-    let read = way_of(way);
-    match read {
-        WayRead::Nothing => Answer::Refused(Refusal::OutOfRange),
-        WayRead::Is(is) => run_under(is, upstream, target, stream, out),
+    let opening = shims::read_both(way, upstream, target);
+    let verdict = opening.verdict;
+    let models = opening.models;
+    match verdict {
+        Verdict::Refused(why) => Answer::Refused(why),
+        Verdict::Accepted => run_models(models, stream, out),
     }
 }

@@ -1,7 +1,7 @@
 -- `access` meets its contract: each step is a move. Assumes nothing.
 use mathlib.Core.Path.{sym, ap, _∙_}
 use borrow.Author.Needs.{needs}
-use Rattle.runs.specs.Moves.{movedBy}
+use Rattle.runs.specs.inner.Moves.{movedBy}
 use Rattle.runs.proofs.access.Statement.{statement}
 use Rattle.runs.proofs.access.Tie as tie
 
@@ -18,10 +18,14 @@ enum-told : tie.Need-enum-told
 enum-told c = search needs
 
 returns : tie.Need-returns
-returns c = ap (movedBy (c .before .before .before .before .before .args .at)) (sym (c .before .step .given .1) ∙ c .before .before .before .take .ensures)
+returns c =
+    ap (movedBy (c .before .before .before .before .before .args .at))
+    (sym (c .before .step .given .1) ∙ c .before .before .before .take .ensures)
 
 returns-2 : tie.Need-returns-2
-returns-2 c = ap (movedBy (c .before .before .before .before .before .args .at)) (sym (c .before .step2 .given .1) ∙ c .before .before .before .take .ensures)
+returns-2 c =
+    ap (movedBy (c .before .before .before .before .before .args .at))
+    (sym (c .before .step2 .given .1) ∙ c .before .before .before .take .ensures)
 
 returns-3 : tie.Need-returns-3
 returns-3 c = ap (movedBy (c .before .before .before .before .args .at)) (sym (c .enum-told .given .1) ∙ c .before .before .take .ensures)

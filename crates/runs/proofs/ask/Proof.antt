@@ -1,4 +1,4 @@
--- `ask` meets its contract. Assumes nothing.
+-- `ask` meets its contract: the test for a fence of the model is the definition's. Assumes nothing.
 use mathlib.Core.Path.{sym, ap, _∙_}
 use borrow.Author.Tests.{lt-ltb, le-ltb}
 use borrow.Author.Needs.{needs}

@@ -5,7 +5,7 @@ use borrow.Author.Needs.{needs}
 use denote.Ref.{now}
 use lib.ListN.{set}
 use Rattle.runs.specs.declared.Move.{Move}
-use Rattle.runs.specs.Moves.{turned, laid}
+use Rattle.runs.specs.inner.Laying.{turned, laid}
 use Rattle.runs.proofs.lay.Statement.{statement}
 use Rattle.runs.proofs.lay.Tie as tie
 

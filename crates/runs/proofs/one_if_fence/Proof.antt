@@ -1,4 +1,4 @@
--- `one_if_fence` meets its contract. Assumes nothing.
+-- `one_if_fence` meets its contract: what the byte is says which arm is taken. Assumes nothing.
 use mathlib.Core.Path.{sym, ap, _∙_}
 use native.Mathlib.Omega.{arith}
 use borrow.Author.Needs.{needs}

@@ -1,53 +1,38 @@
--- `run` meets its contract. Assumes nothing.
-use mathlib.Core.Path.{refl, sym, ap, _∙_}
+-- `run` meets its contract: it is refused as its opening is, or runs the stream over the models. Assumes nothing.
 use borrow.Author.Needs.{needs}
-use denote.Ref.{now}
-use Rattle.rule.specs.declared.way.Way.{Way}
-use Rattle.runs.specs.declared.WayRead.{WayRead}
-use Rattle.runs.specs.Call.{onWay, under, outcome}
-use Rattle.runs.proofs.Staged.{answers-as}
+use Rattle.shims.proofs.Calls.{opening-refused, opening-accepted}
 use Rattle.runs.proofs.run.Statement.{statement}
 use Rattle.runs.proofs.run.Tie as tie
 
-way-of-requires : tie.Need-way-of-requires
-way-of-requires c κs = search needs
+read-both-requires : tie.Need-read-both-requires
+read-both-requires c κs = search needs
+
+enum-known-verdict : tie.Need-enum-known-verdict
+enum-known-verdict c = search needs
 
 enum-told : tie.Need-enum-told
 enum-told c = search needs
 
-enum-known-read : tie.Need-enum-known-read
-enum-known-read c = search needs
-
-run-under-requires : tie.Need-run-under-requires
-run-under-requires c κs = search needs
+run-models-requires : tie.Need-run-models-requires
+run-models-requires c κs = search needs
 
 returns : tie.Need-returns
-returns c =
-    let a = c .before .before .before .before .before .before .before .args in
-    answers-as _ (outcome (a .way) (now (a .upstream)) (now (a .target)) (now (a .stream))) (now (a .out))
-    (ap (λ (w : WayRead). onWay w (λ (w : Way). under w (now (a .upstream)) (now (a .target)) (now (a .stream))))
-    (sym (c .before .before .way-of .ensures) ∙ c .enum-told .given .1))
-    (refl, refl)
+returns c = search (opening-refused, needs)
 
 same-length : tie.Need-same-length
 same-length c = search needs
 
 returns-2 : tie.Need-returns-2
-returns-2 c =
-    let a = c .before .before .before .before .before .before .before .before .before .before .before .before .args in
-    answers-as _ (outcome (a .way) (now (a .upstream)) (now (a .target)) (now (a .stream))) (now (a .out))
-    (ap (λ (w : WayRead). onWay w (λ (w : Way). under w (now (a .upstream)) (now (a .target)) (now (a .stream))))
-    (sym (c .before .before .before .before .before .before .before .way-of .ensures) ∙ c .before .before .before .before .before .read .given .1))
-    (c .before .before .run-under .ensures)
+returns-2 c = search (opening-accepted, needs)
 
 pub run-spec : {M : Type 1} → statement M
 run-spec =
     tie.close
     (tie.spec
-    way-of-requires
+    read-both-requires
+    enum-known-verdict
     enum-told
-    enum-known-read
-    run-under-requires
+    run-models-requires
     returns
     same-length
     returns-2)

@@ -1,41 +1,60 @@
--- `run_models` meets its contract. Assumes nothing.
+-- `run_models` meets its contract: a stream within its limit is run by the shim between the models. Assumes nothing.
 use Prim.Native.Nat.{ℕ, _≤_, _<_}
-use mathlib.Core.Path.{_≡_, sym, ap, _∙_}
+use mathlib.Core.Path.{_≡_, sym}
 use mathlib.Core.List.{List}
 use borrow.Author.Tests.{lt-ltb, le-ltb}
 use borrow.Author.Needs.{needs}
 use denote.Ref.{now}
 use lib.ListN.{length}
-use lib.Seq.{length-take-le}
 use Rattle.answers.specs.declared.Refusal.{Refusal}
-use Rattle.runs.specs.Bytes.{Outcome, refuse, direct}
-use Rattle.runs.specs.Call.{modelOf, onStream, answerOf, bufferOf}
+use Rattle.answers.specs.declared.Answer.{Answer}
+use Rattle.answers.specs.Given.{refuses, Delivers}
+use Rattle.answers.proofs.Given.{delivers-refusal, delivers-as}
+use Rattle.rule.specs.declared.way.Shim.{Shim}
+use Rattle.shims.specs.declared.Models.{Models}
+use Rattle.shims.specs.Models.{modelOf, shimBetween}
+use Rattle.runs.specs.Bytes.{direct}
+use Rattle.runs.specs.Call.{runGiven}
+use Rattle.runs.specs.inner.Moves.{forShim}
 use Rattle.runs.proofs.run_models.Statement.{statement}
 use Rattle.runs.proofs.run_models.Tie as tie
 
-over : (stream : List ℕ) (x : Outcome) → 4096 < length stream → onStream stream x ≡ refuse Refusal.OverLimit
-over stream x l = simp (lt-ltb _ _ l)
+module _ (m : Models) (stream : List ℕ) where
+  over-limit : {out : List ℕ} → 4096 < length stream → Delivers (runGiven m stream) out (Answer.Refused Refusal.OverLimit) out
+  over-limit {out} l =
+      let e : runGiven m stream ≡ refuses Refusal.OverLimit = simp (lt-ltb _ _ l) in
+      delivers-as (sym e) (delivers-refusal out)
 
-within : (stream : List ℕ) (x : Outcome) → length stream ≤ 4096 → onStream stream x ≡ x
-within stream x l = simp (le-ltb _ _ l)
+  within-limit : {shim : Shim} {fences targets out after : List ℕ} {r : Answer} → length stream ≤ 4096 → shim ≡ shimBetween m
+      → fences ≡ modelOf (m .upstream) .fences → targets ≡ modelOf (m .target) .fences
+      → Delivers (forShim direct shim fences targets stream) out r after → Delivers (runGiven m stream) out r after
+  within-limit {shim} {fences} {targets} l s f t d =
+      let e : runGiven m stream ≡ forShim direct (shimBetween m) (modelOf (m .upstream) .fences) (modelOf (m .target) .fences) stream =
+      simp (le-ltb _ _ l) in
+      let same : forShim direct shim fences targets stream ≡ runGiven m stream = cc in
+      delivers-as same d
 
 returns : tie.Need-returns
-returns c =
-    let a = c .before .before .before .args in
-    let e = over (now (a .stream)) (direct (a .way) (modelOf (a .upstream)) (modelOf (a .target)) (now (a .stream))) (c .if1 .taken) in
-    (ap (λ (x : Outcome). answerOf x (length (now (a .out)))) (sym e), ap (λ (x : Outcome). bufferOf x (now (a .out))) (sym e))
+returns c = search (over-limit, needs)
 
-array-share-prefix-fences : tie.Need-array-share-prefix-fences
-array-share-prefix-fences c = c .before .before .before .before .before .before .before .pre .0
+shim-between-requires : tie.Need-shim-between-requires
+shim-between-requires c κs = search needs
 
-slice-aggregate-run-within : tie.Need-slice-aggregate-run-within
-slice-aggregate-run-within c = sym (length-take-le _ _ (c .before .before .before .before .before .before .before .before .pre .0))
+slice-aggregate-fences-of : tie.Need-slice-aggregate-fences-of
+slice-aggregate-fences-of c = search needs
 
-array-share-prefix-targets : tie.Need-array-share-prefix-targets
-array-share-prefix-targets c = c .before .before .before .before .before .before .before .before .pre .1
+fences-of-requires : tie.Need-fences-of-requires
+fences-of-requires c κs = search needs
 
-slice-aggregate-run-within-2 : tie.Need-slice-aggregate-run-within-2
-slice-aggregate-run-within-2 c = sym (length-take-le _ _ (c .before .before .before .before .before .before .before .before .before .pre .1))
+slice-aggregate-fences-of-2 : tie.Need-slice-aggregate-fences-of-2
+slice-aggregate-fences-of-2 c =
+    let ups = c .before .before .before .before .before in
+    let o = ups .before .before .before .before .before .before in
+    let target = o .good .0 .1 .1 .1 .1 .0 in
+    search (target, needs)
+
+fences-of-requires-2 : tie.Need-fences-of-requires-2
+fences-of-requires-2 c κs = search needs
 
 run-within-requires : tie.Need-run-within-requires
 run-within-requires c κs = search needs
@@ -45,22 +64,24 @@ same-length c = search needs
 
 returns-2 : tie.Need-returns-2
 returns-2 c =
-    let a = c .before .before .before .before .before .before .before .before .before .before .before .before .before .args in
-    let r = c .before .before .run-within in
-    let e = within (now (a .stream)) (direct (a .way) (modelOf (a .upstream)) (modelOf (a .target)) (now (a .stream))) (c .before .before .before .before .before .before .before .before .before .before .if1 .left) in (
-      r .ensures .0 ∙ ap (λ (x : Outcome). answerOf x (length (now (a .out)))) (sym e),
-      r .ensures .1 ∙ ap (λ (x : Outcome). bufferOf x (now (a .out))) (sym e),
-    )
+    let ran = c .before .before in
+    let targets = ran .before .before in
+    let fences = targets .before .before .before .before in
+    let between = fences .before .before .before .before in
+    let a = between .before .before .before .before .args in
+    within-limit (a .models) (now (a .stream)) (between .before .if1 .left) (between .shim-between .ensures) (fences .fences-of .ensures)
+    (targets .fences-of2 .ensures) (ran .run-within .ensures)
 
 pub run-models-spec : {M : Type 1} → statement M
 run-models-spec =
     tie.close
     (tie.spec
     returns
-    array-share-prefix-fences
-    slice-aggregate-run-within
-    array-share-prefix-targets
-    slice-aggregate-run-within-2
+    shim-between-requires
+    slice-aggregate-fences-of
+    fences-of-requires
+    slice-aggregate-fences-of-2
+    fences-of-requires-2
     run-within-requires
     same-length
     returns-2)

@@ -1,11 +1,9 @@
 -- `run_within` meets its contract: the run by moves is the direct run. Assumes nothing.
-use mathlib.Core.Path.{sym, ap, _∙_}
+use mathlib.Core.Path.{sym, _∙_}
 use borrow.Author.Needs.{needs}
 use denote.Ref.{now}
-use lib.ListN.{length}
-use Rattle.runs.specs.Bytes.{Outcome}
-use Rattle.runs.specs.Call.{answerOf, bufferOf}
-use Rattle.runs.specs.Moves.{side}
+use Rattle.answers.proofs.Given.{delivers-as}
+use Rattle.rule.specs.Sides.{upstreamOf, targetOf}
 use Rattle.runs.proofs.ByMoves.{direct-moves}
 use Rattle.runs.proofs.run_within.Statement.{statement}
 use Rattle.runs.proofs.run_within.Tie as tie
@@ -27,14 +25,10 @@ same-length c = search needs
 
 returns : tie.Need-returns
 returns c =
-    let a = c .before .before .before .before .before .before .before .before .before .before .before .before .args in
-    let f = c .before .before .finish in
-    let e =
-    direct-moves (a .shim .way) (side (a .shim .upstream) (now (a .fences))) (side (a .shim .target) (now (a .targets))) (now (a .stream))
-    ∙ c .before .before .before .before .before .before .run-stream .ensures .gives in (
-      f .ensures .0 ∙ ap (λ (x : Outcome). answerOf x (length (now (a .out)))) (sym e),
-      f .ensures .1 ∙ ap (λ (x : Outcome). bufferOf x (now (a .out))) (sym e),
-    )
+    let ran = c .before .before .before .before .before .before in
+    let a = ran .before .before .before .before .before .before .args in
+    let e = direct-moves (a .shim .way) (upstreamOf (a .shim) (now (a .fences))) (targetOf (a .shim) (now (a .targets))) (now (a .stream)) in
+    delivers-as (sym (e ∙ ran .run-stream .ensures .is)) (c .before .before .finish .ensures)
 
 pub run-within-spec : {M : Type 1} → statement M
 run-within-spec =

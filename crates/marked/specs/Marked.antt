@@ -4,21 +4,24 @@ use Prim.Native.String.{String}
 use mathlib.Core.List.{List, [], _∷_}
 use Rattle.ground.specs.Bytes.{bytes}
 use Rattle.answers.specs.declared.Refusal.{Refusal}
+use Rattle.answers.specs.Given.{Given, refuses}
 use Rattle.models.specs.Model.{Description}
 use Rattle.built_ins.specs.BuiltIns.{builtIn, model, none}
 use Rattle.models.specs.Text.{textOf}
-use Rattle.runs.specs.Bytes.{Outcome, put, refuse}
+use Rattle.runs.specs.Bytes.{puts}
 use Rattle.runs.specs.Call.{outcome}
 
+-- a row: the two models, the way, the stream, and what the document says that is given
 pub record Entry : Type 0 where
   pub upstream : Description
   pub target : Description
   pub way : ℕ
   pub stream : String
-  pub gives : Outcome
+  pub gives : Given
 
+-- a stream that is put out so
 abbrev entry : Description → Description → ℕ → String → String → Entry
-entry u t way stream out = record { upstream = u; target = t; way = way; stream = stream; gives = put (bytes out) }
+entry u t way stream out = record { upstream = u; target = t; way = way; stream = stream; gives = puts (bytes out) }
 
 -- a target of `-` with no fence
 abbrev pub bare : Description
@@ -46,10 +49,10 @@ marked =
     ∷ entry (builtIn 1) (builtIn 13) 0 "sls" "sl0s"
     ∷ entry (builtIn 0) bare 0 "l" "l"
     ∷ entry (builtIn 0) bare 1 "l" "l"
-    ∷ record { upstream = builtIn 0; target = bare; way = 0; stream = "ll"; gives = refuse (Refusal.NoFenceWillDo 1) }
-    ∷ record { upstream = builtIn 0; target = bare; way = 1; stream = "ll"; gives = refuse (Refusal.NoFenceWillDo 1) }
+    ∷ record { upstream = builtIn 0; target = bare; way = 0; stream = "ll"; gives = refuses (Refusal.NoFenceWillDo 1) }
+    ∷ record { upstream = builtIn 0; target = bare; way = 1; stream = "ll"; gives = refuses (Refusal.NoFenceWillDo 1) }
     ∷ []
 
 -- what the call gives on an entry
-abbrev pub ran : Entry → Outcome
-ran e = outcome (e .way) (textOf (e .upstream)) (textOf (e .target)) (bytes (e .stream))
+abbrev pub given : Entry → Given
+given e = outcome (e .way) (textOf (e .upstream)) (textOf (e .target)) (bytes (e .stream))

@@ -1,11 +1,11 @@
--- `way_of` meets its contract. Assumes nothing.
+-- `way_of` meets its contract: the numbers of the arms are those of the definition. Assumes nothing.
 use Prim.Native.Nat.{ℕ}
 use mathlib.Core.Path.{_≡_, sym, ap}
 use borrow.Author.Tests.{ne-eqb}
-use Rattle.runs.specs.declared.WayRead.{WayRead}
-use Rattle.runs.specs.Call.{wayOf}
-use Rattle.runs.proofs.way_of.Statement.{statement}
-use Rattle.runs.proofs.way_of.Tie as tie
+use Rattle.shims.specs.declared.WayRead.{WayRead}
+use Rattle.shims.specs.Opening.{wayOf}
+use Rattle.shims.proofs.way_of.Statement.{statement}
+use Rattle.shims.proofs.way_of.Tie as tie
 
 no-way : (n : ℕ) → (n ≡ 0 → ⊥) → (n ≡ 1 → ⊥) → wayOf n ≡ WayRead.Nothing
 no-way n p q = simp (ne-eqb n 0 p, ne-eqb n 1 q)

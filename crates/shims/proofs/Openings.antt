@@ -1,0 +1,75 @@
+-- What an opening comes to: its stages are gone through one by one, and where all go on the texts were read as its models. Assumes nothing.
+use Prim.Native.Nat.{ℕ, _≤_}
+use mathlib.Core.Path.{_≡_, refl, ap, subst, _∙_}
+use mathlib.Core.List.{List}
+use native.Mathlib.Omega.{arith}
+use lib.ListN.{length, length-take}
+use Rattle.ground.proofs.Truths.{differ}
+use Rattle.answers.specs.declared.Verdict.{Verdict}
+use Rattle.rule.specs.declared.way.Way.{Way}
+use Rattle.rule.specs.Rule.{wayNumber}
+use Rattle.models.specs.declared.model.Model.{Model}
+use Rattle.models.specs.declared.model.Reading.{Reading}
+use Rattle.models.specs.Reading.{reading, accepting, Told, over, departs, repeated, accepted}
+use Rattle.models.proofs.Words.{told}
+use Rattle.shims.specs.declared.WayRead.{WayRead}
+use Rattle.shims.specs.declared.Models.{Models}
+use Rattle.shims.specs.declared.Opening.{Opening}
+use Rattle.shims.specs.Models.{modelOf}
+use Rattle.shims.specs.Opening.{wayOf, opening, onVerdict, onReading, onTarget, openedBy, Opens}
+
+-- Reading the number that is written for a way gives the way back.
+pub read-written : (way : Way) → wayOf (wayNumber way) ≡ WayRead.Is way
+read-written Way.Sparing = refl
+read-written Way.Full = refl
+
+-- a reading whose verdict is known
+accepts : {r : Reading} → r .verdict ≡ Verdict.Accepted → r ≡ accepting (r .model)
+accepts {r} e = ap (λ (v : Verdict). record { verdict = v; model = r .model }) e
+
+-- An opening that is accepted opens with the models of its number and texts,
+pub opens : (read : WayRead) (upstream target : List ℕ) → openedBy read upstream target .verdict ≡ Verdict.Accepted
+    → Opens read upstream target (openedBy read upstream target .models)
+opens WayRead.Nothing upstream target e = differ (cc)
+opens (WayRead.Is way) upstream target e = by-upstream (reading upstream .verdict) refl e
+  where
+    up : Model
+    up = reading upstream .model
+
+    both : Opening
+    both = opening (record { way = way; upstream = up; target = reading target .model })
+
+    by-target : (v : Verdict) → reading upstream .verdict ≡ Verdict.Accepted → reading target .verdict ≡ v
+        → onVerdict v both .verdict ≡ Verdict.Accepted → Opens (WayRead.Is way) upstream target (onVerdict v both .models)
+    by-target Verdict.Accepted u t e = record { way-read = refl; upstream-read = accepts u; target-read = accepts t }
+    by-target (Verdict.Refused why) u t e = differ (cc)
+
+    by-upstream : (v : Verdict) → reading upstream .verdict ≡ v → onVerdict v (onTarget way up target) .verdict ≡ Verdict.Accepted
+        → Opens (WayRead.Is way) upstream target (onVerdict v (onTarget way up target) .models)
+    by-upstream Verdict.Accepted u e = by-target (reading target .verdict) u refl e
+    by-upstream (Verdict.Refused why) u e = differ (cc)
+
+-- and a number and texts that name models open with them.
+pub opens-so : {read : WayRead} {upstream target : List ℕ} {models : Models} → Opens read upstream target models
+    → openedBy read upstream target ≡ opening models
+opens-so {read} {upstream} {target} {models} o =
+    ap (λ (r : WayRead). openedBy r upstream target) (o .way-read)
+    ∙ ap (λ (r : Reading). onReading r λ (u : Model). onTarget (models .way) u target) (o .upstream-read)
+    ∙ ap (λ (r : Reading). onReading r with-target) (o .target-read)
+  where
+    with-target : Model → Opening
+    with-target t = opening (record { way = models .way; upstream = models .upstream; target = t })
+
+-- A model that was read has at most sixteen fences.
+few : {t : List ℕ} {r : Reading} → Told t r → r .verdict ≡ Verdict.Accepted → r .model .fences ≤ 16
+few (over l) e = differ (cc)
+few (departs l n k) e = differ (cc)
+few (repeated d k l f t s) e = differ (cc)
+few (accepted d l f t s) e = f .few
+
+pub few-read : (text : List ℕ) {m : Model} → reading text ≡ accepting m → m .fences ≤ 16
+few-read text {m} e = few (subst (Told text) e (told text)) refl
+
+-- So has it as the rule sees it.
+pub few-fences : (m : Model) → m .fences ≤ 16 → length (modelOf m .fences) ≤ 16
+few-fences m h = omega (arith, length-take (m .fences) (m .tables))
