@@ -31,7 +31,7 @@ use Rattle.machine.specs.declared.machine.Outcome.{Outcome}
 use Rattle.machine.proofs.Finish.{equal}
 use Rattle.machine.proofs.Zeros.{at-most-sixteen}
 use Rattle.machine.proofs.Unique.{alike, too-few}
-use Rattle.machine.proofs.Speaking.{heardAs, spoken-told, ends-spelt, goes-on, shim-like}
+use Rattle.machine.proofs.Speaking.{ranAs, spoken-gets, ends-spelt, goes-on, shim-like}
 use Rattle.machine.proofs.Counting.{run-accepted, accepted-run, same-state, many-situations, many-states}
 
 -- the model that `generate` is given by a default table and packed fence tables
@@ -80,9 +80,9 @@ module _ (way : Way) (up : Table) (ups : List ℕ) (target : Table) (fences rows
   unfolding m own
   runs-like-the-rule w h =
       ap (λ (n : Mealy ℕ Stream). spoken n (n .fresh) w) the-same
-      ∙ spoken-told own 0 w
-      ∙ ap (heardAs w) (run-fresh m (Same m) (made .states) (λ s t r. r) w)
-      ∙ sym (spoken-told m (m .fresh) w)
+      ∙ spoken-gets own 0 w
+      ∙ ap (ranAs w) (run-fresh m (Same m) (made .states) (λ s t r. r) w)
+      ∙ sym (spoken-gets m (m .fresh) w)
       ∙ shim-like way (modelOf up ups) (modelOf target fences) few w h
 
   -- A run from any state is the continuation of any accepted stream that leads there.
