@@ -15,7 +15,7 @@ use Rattle.mealy.specs.Arrivals.{More}
 use Rattle.machine.specs.Shim.{lettersOf, shim}
 use Rattle.machine.specs.Spoken.{Letters, operations, spelling, spoken}
 use Rattle.machine.specs.Counted.{SameSituation, SameState, MoreThan, ManyStates}
-use Rattle.machine.proofs.Speaking.{spoken-told, heardAs, ends-spelt, done-accepted, accepted-done, accepted-letters, alike-same, goes-on, shim-like}
+use Rattle.machine.proofs.Speaking.{spoken-gets, ranAs, ends-spelt, done-accepted, accepted-done, accepted-letters, alike-same, goes-on, shim-like}
 use Rattle.machine.proofs.Situated.{reached-situation, puts-apart}
 
 module _ (way : Way) (up target : Model) (few : length (target .fences) ≤ 16) where
@@ -45,9 +45,9 @@ module _ (way : Way) (up target : Model) (few : length (target .fences) ≤ 16) 
     same-state = (
       λ s x k.
           sym (shim-onward v h out e x k)
-          ∙ spoken-told (shim way up target) _ x
-          ∙ ap (heardAs x) (s .same x)
-          ∙ sym (spoken-told (shim way up target) _ x)
+          ∙ spoken-gets (shim way up target) _ x
+          ∙ ap (ranAs x) (s .same x)
+          ∙ sym (spoken-gets (shim way up target) _ x)
           ∙ shim-onward w l out′ f x k,
       λ s.
           alike-same (shim way up target) (puts-apart way up target few) _ _

@@ -8,14 +8,14 @@ use lib.ListN.{length, set, length-set}
 use lib.Seq.{getD-set-same, getD-set-other}
 use Rattle.ground.specs.Bytes.{at}
 use Rattle.operations.specs.Alphabet.{stride}
-use Rattle.mealy.proofs.Numbering.{split-last}
-use Rattle.machine.specs.Rows.{RowWritten, Narrow}
+use Rattle.mealy.proofs.Numbers.{split-last}
+use Rattle.machine.specs.inner.Writing.{RowWritten, Narrow}
 
 pub narrow-at : {table : List ℕ} → Narrow table → (p : ℕ) {w : ℕ} → w ≡ at table p → w < 1052672
 narrow-at x p e = rw e (x .narrow p)
 
 pub row-start : (rows : List ℕ) (q : ℕ) (f : ℕ → ℕ) → RowWritten rows q f 0 rows
-row-start rows q f = record { size = refl; written = λ a h. absurd (omega arith); kept = λ p h. refl }
+row-start rows q f = record { size = refl; words = λ a h. absurd (omega arith); kept = λ p h. refl }
 
 -- one word more of a row
 pub row-next : {rows rows′ : List ℕ} {q : ℕ} {f : ℕ → ℕ} {a : ℕ} → RowWritten rows q f a rows′ → q * stride + a < length rows → {v : ℕ} → v ≡ f a
@@ -23,8 +23,8 @@ pub row-next : {rows rows′ : List ℕ} {q : ℕ} {f : ℕ → ℕ} {a : ℕ} �
 row-next {rows} {rows′} {q} {f} {a} x h {v} e =
     record {
       size = simp length-set (x .size);
-      written = λ b l.
-          ⊎-elim (λ (r : b < a). getD-set-other rows′ (q * stride + a) (q * stride + b) v 0 (omega arith) ∙ x .written b r)
+      words = λ b l.
+          ⊎-elim (λ (r : b < a). getD-set-other rows′ (q * stride + a) (q * stride + b) v 0 (omega arith) ∙ x .words b r)
           (λ (r : b ≡ a).
           rw r (getD-set-same rows′ (q * stride + a) v 0 (rw (x .size) h) ∙ e))
           (split-last b a l);

@@ -15,12 +15,13 @@ use Rattle.mealy.specs.Order.{_▹_}
 use Rattle.mealy.specs.Arrivals.{arrival, More}
 use Rattle.mealy.specs.Exploring.{Before}
 use Rattle.mealy.proofs.Runs.{untaken, ends-on}
-use Rattle.mealy.proofs.Numbering.{split-last}
+use Rattle.mealy.proofs.Numbers.{split-last}
 use Rattle.mealy.proofs.Exploring.{ahead, explore-known, explore-new, explore-beyond}
-use Rattle.machine.specs.Index.{capacity, Index, Pair, Absent, Pushed, Placed, known, added, full}
-use Rattle.machine.specs.Words.{answer, row}
-use Rattle.machine.specs.Rows.{Narrow}
-use Rattle.machine.specs.Explore.{situationAt, Output, Explored, Stored, stored, unstored, Onward, onward, beyond}
+use Rattle.machine.specs.inner.Index.{capacity, Index, Pair, Absent, Pushed, known, added, full}
+use Rattle.machine.specs.inner.Words.{answer, row}
+use Rattle.machine.specs.inner.Writing.{Narrow}
+use Rattle.machine.specs.declared.step.Answered.{Answered}
+use Rattle.machine.specs.inner.Explore.{situationAt, Output, Explored, PlacedAt, Notable, Stored, stored, unstored, Onward, onward, beyond}
 use Rattle.machine.proofs.Keys.{word-taken}
 use Rattle.machine.proofs.Naming.{placed-low}
 
@@ -31,6 +32,9 @@ encoded o q w h e = word-taken w (omega arith) ∙ ap₂ taken (omega arith) (om
 pub output-byte : (o : ℕ) → Output o → o < 256
 output-byte o (inl h) = omega arith
 output-byte o (inr h) = omega arith
+
+pub notable-byte : {y : Answered} {o : ℕ} {next : Situation} → Notable y → y ≡ Answered.Taken o next → o < 256
+notable-byte {o = o} {next = next} x e = x .byte o next e
 
 -- a table with one word more
 module _ (table : List ℕ) (i a w : ℕ) (fits : i * stride + a < length table) where
@@ -182,7 +186,7 @@ module _ {m : Machine Situation ℕ} {pairs links table : List ℕ} {count i a :
             ∙ ap (arrival m streams′) (x .size)
 
     -- the pair of the next situation is placed
-    pub explored-taken : {pairs′ links′ : List ℕ} {q : ℕ} → Placed pairs count (t .need .packed) (t .low .packed) pairs′ links′ q
+    pub explored-taken : {pairs′ links′ : List ℕ} {q : ℕ} → PlacedAt pairs count t pairs′ links′ q
         → (q ≡ capacity → ⊥) → {w : ℕ} → w ≡ (o + 1) * 4096 + q → {r : ℕ} → r ≡ max count (q + 1)
         → Explored m pairs′ links′ (set table (i * stride + a) w) r i (a + 1)
     explored-taken {q = q} (known h there same y) room {w} word {r} e =
@@ -193,7 +197,7 @@ module _ {m : Machine Situation ℕ} {pairs links table : List ℕ} {count i a :
         rw one (new-place w (omega arith) more absent pushed)
     explored-taken (full h absent size same) room word e = absurd (room (h ∙ size))
 
-    pub explored-beyond : {pairs′ links′ : List ℕ} {q : ℕ} → Placed pairs count (t .need .packed) (t .low .packed) pairs′ links′ q
+    pub explored-beyond : {pairs′ links′ : List ℕ} {q : ℕ} → PlacedAt pairs count t pairs′ links′ q
         → q ≡ capacity → More m _≡_ capacity
     explored-beyond (known h there same y) e = absurd (omega (arith, x .index .fits))
     explored-beyond (added h absent more pushed) e = absurd (omega arith)
@@ -202,7 +206,7 @@ module _ {m : Machine Situation ℕ} {pairs links table : List ℕ} {count i a :
 
     -- and its word stored
     pub explored-stored : {pairs′ links′ table′ : List ℕ} {r : ℕ}
-        → Stored pairs table count i a o (t .need .packed) (t .low .packed) pairs′ links′ table′ r → Onward m count pairs′ links′ table′ i (a + 1) r
+        → Stored pairs table count i a o t pairs′ links′ table′ r → Onward m count pairs′ links′ table′ i (a + 1) r
     explored-stored {r = r} (stored q placed room word e) =
         rw word
         (onward (omega arith) (omega (arith, placed-low placed, x .index .fits, room)) (explored-taken placed room refl e))

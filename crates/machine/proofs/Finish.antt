@@ -9,32 +9,30 @@ use native.Mathlib.Decide.{decLt}
 use borrow.Author.Tests.{lt-ltb, le-ltb, ne-eqb}
 use lib.ListN.{length}
 use Rattle.ground.specs.Bytes.{at}
-use Rattle.tables.specs.declared.table.Table.{Table}
-use Rattle.operations.specs.Alphabet.{stride}
+use Rattle.operations.specs.Alphabet.{stride, lettersWith}
 use Rattle.rule.specs.declared.situation.Situation.{Situation}
-use Rattle.rule.specs.declared.way.Way.{Way}
+use Rattle.rule.specs.declared.way.Shim.{Shim}
+use Rattle.rule.specs.Sides.{upstreamOf, targetOf}
 use Rattle.rule.specs.Rule.{wayNumber}
 use Rattle.mealy.specs.Runs.{taken, Machine, Same}
 use Rattle.mealy.specs.Arrivals.{Entry, Described, More, AtMost, Exactly}
 use Rattle.mealy.specs.Classes.{Numbering, classed, States}
-use Rattle.mealy.proofs.Unique.{Alike, arrivals-at-most, arrivals-exactly}
+use Rattle.mealy.proofs.Unique.{equal, arrivals-at-most, arrivals-exactly}
 use Rattle.mealy.proofs.Exploring.{explore-end}
 use Rattle.mealy.proofs.Numbering.{numbering-one}
 use Rattle.mealy.proofs.Describing.{numbered-step}
 use Rattle.mealy.proofs.States.{rows-closed, classes-many, classes-states}
-use Rattle.machine.specs.Index.{capacity}
-use Rattle.machine.specs.Words.{answer, row, tabled}
-use Rattle.machine.specs.Rows.{decoded, stateWord, stateEntry, RowsWritten}
-use Rattle.machine.specs.Refine.{Begun, Crowd}
-use Rattle.machine.specs.Explore.{Explored, Output, Blank}
+use Rattle.machine.specs.inner.Index.{capacity}
+use Rattle.machine.specs.inner.Words.{answer, row, tabled}
+use Rattle.machine.specs.Rows.{decoded}
+use Rattle.machine.specs.inner.Writing.{stateWord, stateEntry, RowsWritten}
+use Rattle.machine.specs.inner.Refine.{Begun, Crowd}
+use Rattle.machine.specs.inner.Explore.{Explored, Output, Blank}
 use Rattle.machine.specs.Shim.{shimOf}
-use Rattle.machine.specs.Generated.{Canonical, refusing, passing, Making}
+use Rattle.machine.specs.Generated.{ProperWord, refusing, passing, Making}
+use Rattle.machine.specs.inner.Stages.{Sorted}
 use Rattle.machine.proofs.Letters.{shim-step, letter-fence}
 use Rattle.machine.proofs.Keys.{word-refused, word-taken}
-
--- equality, as a relation
-pub equal : {S : Type 0} → Alike (_≡_ {A = S})
-equal = record { back = λ s t e. sym e; on = λ s t u e f. e ∙ f }
 
 module _ {m : Machine Situation ℕ} {pairs links table : List ℕ} {count : ℕ} (x : Explored m pairs links table count count 0) where
   pub found : Described m _≡_ count (row table)
@@ -66,7 +64,8 @@ not-refusing o (inl h) e = omega arith
 not-refusing o (inr h) e = omega arith
 
 -- the word of a state says what the table's word says, with classes for targets
-module _ (classes : List ℕ) (v : ℕ) (output : (o j : ℕ) → answer v ≡ taken o j → Output o) (byte : (o j : ℕ) → answer v ≡ taken o j → at classes j < 256) where
+module _ (classes : List ℕ) (v : ℕ) (output : (o j : ℕ) → answer v ≡ taken o j → Output o)
+    (byte : (o j : ℕ) → answer v ≡ taken o j → at classes j < 256) where
   word-parts : 4096 ≤ v → (stateWord classes v / 256 ≡ v / 4096 - 1) × (stateWord classes v % 256 ≡ at classes (v % 4096))
   word-parts r =
       let e : stateWord classes v ≡ (v / 4096 - 1) * 256 + at classes (v % 4096) = rw (le-ltb v 4096 r) in
@@ -84,25 +83,30 @@ module _ (classes : List ℕ) (v : ℕ) (output : (o j : ℕ) → answer v ≡ t
           let n : v / 4096 - 1 ≡ 254 → ⊥ = not-refusing _ (output _ _ (word-taken v r)) in
           rw (word-taken v r, p .0, p .1, ne-eqb (v / 4096 - 1) 254 n) refl
 
-  state-canonical : (targets states : ℕ) → ((o j : ℕ) → answer v ≡ taken o j → (o < targets) ⊎ (o ≡ 255))
-      → ((o j : ℕ) → answer v ≡ taken o j → at classes j < states) → Canonical targets states (stateWord classes v)
-  state-canonical targets states fence next = look (decLt v 4096)
+  state-proper : (targets states : ℕ) → ((o j : ℕ) → answer v ≡ taken o j → (o < targets) ⊎ (o ≡ 255))
+      → ((o j : ℕ) → answer v ≡ taken o j → at classes j < states) → ProperWord targets states (stateWord classes v)
+  state-proper targets states fence next = look (decLt v 4096)
     where
-      look : Dec (v < 4096) → Canonical targets states (stateWord classes v)
+      look : Dec (v < 4096) → ProperWord targets states (stateWord classes v)
       look (yes h) = refusing (rw (lt-ltb v 4096 h) refl)
       look (no h) =
           let r : 4096 ≤ v = omega arith in
           let p = word-parts r in
           passing (rw (p .0) (fence _ _ (word-taken v r))) (rw (p .1) (next _ _ (word-taken v r)))
 
-module _ (way : Way) (up : Table) (ups : List ℕ) (target : Table) (fences : List ℕ) (few : length ups ≤ 16) {pairs links table : List ℕ} {count : ℕ}
-    (x : Explored (shimOf way up ups target fences) pairs links table count count 0) (classes : List ℕ) {n : ℕ}
-    (y : States (tabled (4 + length ups) table) count (at classes) n) (low : n ≤ 255) where
+-- the states, of a shim with its fences
+module _ {s : Shim} {ups fences table classes : List ℕ} {count n : ℕ} (z : Sorted s ups fences table classes count n) where
   abbrev m : Machine Situation ℕ
-  m = shimOf way up ups target fences
+  m = shimOf s ups fences
 
   abbrev letters : ℕ
-  letters = 4 + length ups
+  letters = lettersWith (length ups)
+
+  abbrev x : Explored m (z .searched .pairs) (z .searched .links) table count count 0
+  x = z .searched .explored
+
+  abbrev y : States (tabled letters table) count (at classes) n
+  y = z .states-found
 
   -- the first situation of class q, and the table's word there
   abbrev first : ℕ → ℕ
@@ -117,49 +121,53 @@ module _ (way : Way) (up : Table) (ups : List ℕ) (target : Table) (fences : Li
         y .numbering .below j
         (rows-closed m (found x) .stays (first q) a o j (y .numbering .first q h .0) (numbered-step letters (row table) (first q) a l ∙ e))
 
+    byte : (o j : ℕ) → answer (word q a) ≡ taken o j → at classes j < 256
+    byte o j e = omega (arith, below o j e, z .few-states)
+
     word-decoded : decoded (stateWord classes (word q a)) ≡ classed (at classes) (row table (first q) a)
-    word-decoded = state-decoded classes (word q a) (x .outputs (first q * stride + a)) (λ o j e. omega (arith, below o j e))
+    word-decoded = state-decoded classes (word q a) (x .outputs (first q * stride + a)) byte
 
     fence : (o j : ℕ) → answer (word q a) ≡ taken o j → (o < length fences) ⊎ (o ≡ 255)
     fence o j e =
         let entry = found x .rows (first q) a (y .numbering .first q h .0) l in
         let got : Entry m _≡_ (found x .streams) (first q) a (taken o j) = rw e at entry in
-        letter-fence way (record { ppo = up; fences = ups }) (record { ppo = target; fences = fences }) _ a o (got .0)
-        (sym (shim-step way (record { ppo = up; fences = ups }) (record { ppo = target; fences = fences }) _ a l) ∙ got .1)
+        letter-fence (s .way) (upstreamOf s ups) (targetOf s fences) _ a o (got .0)
+        (sym (shim-step (s .way) (upstreamOf s ups) (targetOf s fences) _ a l) ∙ got .1)
 
-    word-canonical : Canonical (length fences) n (stateWord classes (word q a))
-    word-canonical =
-        state-canonical classes (word q a) (x .outputs (first q * stride + a)) (λ o j e. omega (arith, below o j e)) (length fences) n fence below
+    word-proper : ProperWord (length fences) n (stateWord classes (word q a))
+    word-proper =
+        let outputs = x .outputs (first q * stride + a) in state-proper classes (word q a) outputs byte (length fences) n fence below
 
   -- the states, where there is no room for their rows
   pub described : Described m (Same m) n (λ q a. classed (at classes) (row table (first q) a))
   described = classes-states m (found x) y (λ q a h l. refl)
 
   -- the machine, where its rows have been written
-  pub making : {rows rows′ : List ℕ} → ((z : Numbering count (at classes) n)
-      → RowsWritten rows n (λ q. stateEntry table classes letters (z .firsts q)) rows′) → n * stride ≤ length rows
-      → (number : ℕ) → number ≡ wayNumber way
-      → Making m way (length ups) (length fences) rows (record { way = number; situations = count; states = n; ups = length ups; targets = length fences }) rows′
-  making {rows} {rows′} write room number e =
+  pub making : {rows rows′ : List ℕ} → ((v : Numbering count (at classes) n)
+      → RowsWritten rows n (λ q. stateEntry table classes letters (v .firsts q)) rows′) → n * stride ≤ length rows
+      → {number : ℕ} → number ≡ wayNumber (s .way)
+      → Making m (s .way) (length ups) (length fences) rows
+      (record { way = number; situations = count; states = n; ups = length ups; targets = length fences }) rows′
+  making {rows} {rows′} write room e =
       record {
         way-number = e;
         its-ups = refl;
         its-targets = refl;
         few-situations = few-situations x;
         situations = all-situations x;
-        few-states = low;
+        few-states = z .few-states;
         states =
             classes-states m (found x) y
             (λ q a h l. ap decoded (entry q a h l) ∙ word-decoded q a h l);
-        size = written .size;
+        size = done .size;
         room = room;
-        words = λ q a h l. rw (entry q a h l) (word-canonical q a h l);
-        absent = λ q a h l r. written .written q a h r ∙ rw (le-ltb a letters l);
-        kept = written .kept;
+        words = λ q a h l. rw (entry q a h l) (word-proper q a h l);
+        absent = λ q a h l r. done .words q a h r ∙ rw (le-ltb a letters l);
+        kept = done .kept;
       }
     where
-      written : RowsWritten rows n (λ q. stateEntry table classes letters (first q)) rows′
-      written = write (y .numbering)
+      done : RowsWritten rows n (λ q. stateEntry table classes letters (first q)) rows′
+      done = write (y .numbering)
 
       entry : (q a : ℕ) → q < n → a < letters → at rows′ (q * stride + a) ≡ stateWord classes (word q a)
-      entry q a h l = written .written q a h (omega arith) ∙ rw (lt-ltb a letters l)
+      entry q a h l = done .words q a h (omega (arith, z .searched .few .few-ups)) ∙ rw (lt-ltb a letters l)

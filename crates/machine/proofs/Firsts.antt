@@ -8,10 +8,9 @@ use lib.ListN.{length}
 use Rattle.ground.specs.Bytes.{at}
 use Rattle.operations.specs.Alphabet.{stride}
 use Rattle.mealy.specs.Classes.{Numbering}
-use Rattle.mealy.proofs.Unique.{order}
+use Rattle.mealy.proofs.Numbers.{order, split-last}
 use Rattle.mealy.proofs.Refining.{firsts-rise}
-use Rattle.mealy.proofs.Numbering.{split-last}
-use Rattle.machine.specs.Rows.{RowWritten, RowsWritten, FirstWritten, later, first}
+use Rattle.machine.specs.inner.Writing.{RowWritten, RowsWritten, FirstWritten, later, first}
 
 -- of the first i situations, those that are the first of their classes, which are the classes below q, have their rows written
 pub record Writing {k : ℕ} {class : ℕ → ℕ} {n : ℕ} (x : Numbering k class n) (f : ℕ → ℕ → ℕ) (rows rows′ : List ℕ) (q i : ℕ) : Type 0 where
@@ -22,14 +21,14 @@ pub record Writing {k : ℕ} {class : ℕ → ℕ} {n : ℕ} (x : Numbering k cl
   pub done : RowsWritten rows q (λ p. f (x .firsts p)) rows′
 
 -- one row more
-rows-more : {k : ℕ} {class : ℕ → ℕ} {n : ℕ} (x : Numbering k class n) (f : ℕ → ℕ → ℕ) {rows rows′ rows″ : List ℕ} {q i : ℕ} → RowsWritten rows q (λ p. f (x .firsts p)) rows′ → RowWritten rows′ q (f i) stride rows″
-    → x .firsts q ≡ i → RowsWritten rows (q + 1) (λ p. f (x .firsts p)) rows″
+rows-more : {k : ℕ} {class : ℕ → ℕ} {n : ℕ} (x : Numbering k class n) (f : ℕ → ℕ → ℕ) {rows rows′ rows″ : List ℕ} {q i : ℕ}
+    → RowsWritten rows q (λ p. f (x .firsts p)) rows′ → RowWritten rows′ q (f i) stride rows″ → x .firsts q ≡ i → RowsWritten rows (q + 1) (λ p. f (x .firsts p)) rows″
 rows-more x f {q = q} w y e =
     record {
       size = y .size ∙ w .size;
-      written = λ p a l h.
-          ⊎-elim (λ (r : p < q). y .kept (p * stride + a) (inl (omega arith)) ∙ w .written p a r h)
-          (λ (r : p ≡ q). rw (r, e) (y .written a h))
+      words = λ p a l h.
+          ⊎-elim (λ (r : p < q). y .kept (p * stride + a) (inl (omega arith)) ∙ w .words p a r h)
+          (λ (r : p ≡ q). rw (r, e) (y .words a h))
           (split-last p q l);
       kept = λ p l. y .kept p (inr (omega arith)) ∙ w .kept p (omega arith);
     }
@@ -42,7 +41,7 @@ module _ {k : ℕ} {class : ℕ → ℕ} {n : ℕ} (x : Numbering k class n) {f 
         low = omega arith;
         past = λ p h. absurd (omega arith);
         ahead = λ h. omega arith;
-        done = record { size = refl; written = λ q a h. absurd (omega arith); kept = λ p h. refl };
+        done = record { size = refl; words = λ q a h. absurd (omega arith); kept = λ p h. refl };
       }
 
   -- a situation of the next class to come is the first of it

@@ -12,8 +12,8 @@ use Rattle.mealy.specs.Runs.{refused, taken}
 use Rattle.mealy.specs.Classes.{classed, Closed, Split}
 use Rattle.mealy.proofs.Runs.{untaken}
 use Rattle.mealy.proofs.Describing.{numbered-step}
-use Rattle.machine.specs.Words.{answer, row, tabled, seen, key}
-use Rattle.machine.specs.Refine.{ByKey}
+use Rattle.machine.specs.inner.Words.{answer, row, tabled, seen, key}
+use Rattle.machine.specs.inner.Refine.{ByKey}
 
 pub word-refused : (w : ℕ) → w < 4096 → answer w ≡ refused
 word-refused w h = rw (lt-ltb w 4096 h)

@@ -20,7 +20,7 @@ use Rattle.rule.proofs.Choices.{Takes, serves, choice-nothing, choice-pick, pic
 use Rattle.mealy.specs.Runs.{Answer, taken}
 use Rattle.mealy.proofs.Runs.{untaken}
 use Rattle.machine.specs.Shim.{lettersOf, stepAnswer, letterAnswer, shim}
-use Rattle.machine.specs.Explore.{Output}
+use Rattle.machine.specs.inner.Explore.{Output}
 
 pub shim-step : (way : Way) (up target : Model) (s : Situation) (a : ℕ) → a < lettersOf up
     → (shim way up target) .step s a ≡ letterAnswer way up target s a

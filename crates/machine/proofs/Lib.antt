@@ -10,6 +10,7 @@ pub mod Letters
 pub mod Breadth
 pub mod Finish
 pub mod Zeros
+pub mod Stages
 pub mod Unique
 pub mod Speaking
 pub mod Situated

@@ -1,14 +1,15 @@
 -- The index: how a search goes down its chain, and how one pair more is linked in. Assumes nothing.
 use Prim.Native.Nat.{ℕ, _+_, _-_, _*_, _≤_, _<_}
-use mathlib.Core.Path.{_≡_, sym, _∙_, ap, ap₂}
+use mathlib.Core.Path.{_≡_, refl, sym, _∙_, ap, ap₂}
 use mathlib.Core.Logic.{⊎-elim}
 use mathlib.Core.List.{List}
 use native.Mathlib.Omega.{arith}
 use native.Mathlib.Decide.{ℕ-discrete}
 use lib.ListN.{getD, set, length-set}
 use lib.Seq.{getD-set-same, getD-set-other}
-use Rattle.mealy.proofs.Numbering.{split-last}
-use Rattle.machine.specs.Index.{capacity, bucketOf, needAt, lowAt, bucketAt, headAt, nextAt, Link, Index, Pair, Absent, Pushed}
+use Rattle.ground.specs.declared.Found.{Found}
+use Rattle.mealy.proofs.Numbers.{split-last}
+use Rattle.machine.specs.inner.Index.{capacity, bucketOf, needAt, lowAt, bucketAt, headAt, nextAt, Link, Index, Pair, Absent, FoundAt, there, nowhere, Pushed, Placed, known}
 
 -- a search at a link: the pair stands at no place above it
 pub record Seeking (pairs links : List ℕ) (count need low link : ℕ) : Type 0 where
@@ -52,6 +53,17 @@ seek-next {pairs} {links} {count} {need} {low} {link} x p next more at unlike e 
 
 pub seek-end : {pairs links : List ℕ} {count need low : ℕ} → Seeking pairs links count need low 0 → Absent pairs count need low
 seek-end x p h r = omega (arith, x .below p h r)
+
+-- what a search has found, and what it has not
+pub found-known : {pairs links : List ℕ} {count need low : ℕ} {r : Found} {p : ℕ} → FoundAt pairs count need low r → r ≡ Found.At p
+    → Index pairs links count → Placed pairs count need low pairs links p
+found-known {r = r} {p = p} (there q f h here) e x = let one : q ≡ p = cc in known (rw one at h) (rw one at here) refl x
+found-known {r = r} {p = p} (nowhere f absent) e x = let z : _≡_ {A = ℕ} 0 1 = cc in absurd (omega arith)
+
+pub found-absent : {pairs : List ℕ} {count need low : ℕ} {r : Found} → FoundAt pairs count need low r → r ≡ Found.Nowhere
+    → Absent pairs count need low
+found-absent {r = r} (there q f h here) e = let z : _≡_ {A = ℕ} 0 1 = cc in absurd (omega arith)
+found-absent (nowhere f absent) e = absent
 
 -- the next link is lower
 pub seek-less : {pairs links : List ℕ} {count need low link : ℕ} → Seeking pairs links count need low link

@@ -9,9 +9,10 @@ use lib.ListN.{length, set, replicate, length-set, length-replicate, getD-replic
 use lib.Seq.{getD-set-same, getD-set-other}
 use Rattle.ground.specs.Bytes.{at}
 use Rattle.mealy.specs.Classes.{Numbering}
-use Rattle.mealy.proofs.Numbering.{split-last, numbering-none, numbering-known, numbering-new}
-use Rattle.machine.specs.Index.{capacity, needAt, Scratch, Index, Pair, Absent, Pushed, Placed, known, added, full}
-use Rattle.machine.specs.Refine.{ByKey, Named, named, crowded}
+use Rattle.mealy.proofs.Numbers.{split-last}
+use Rattle.mealy.proofs.Numbering.{numbering-none, numbering-known, numbering-new}
+use Rattle.machine.specs.inner.Index.{capacity, needAt, Scratch, Index, Pair, Absent, Pushed, Placed, known, added, full}
+use Rattle.machine.specs.inner.Refine.{ByKey, Named, named, crowded}
 
 -- the first i things are numbered
 pub record Naming (key : ℕ → ℕ) (classes pairs links : List ℕ) (count i : ℕ) : Type 0 where

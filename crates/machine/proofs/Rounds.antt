@@ -9,9 +9,9 @@ use Rattle.ground.specs.Bytes.{at}
 use Rattle.mealy.specs.Runs.{Machine}
 use Rattle.mealy.specs.Classes.{Coarse, Round, States}
 use Rattle.mealy.proofs.Refining.{split-coarse, round-start, round-next, round-end}
-use Rattle.machine.specs.Index.{capacity, Scratch}
-use Rattle.machine.specs.Words.{words, tabled, key}
-use Rattle.machine.specs.Refine.{Named, named, crowded, Rounded, rounded, overfull, Refined, refined, overmany, Begun, Crowd}
+use Rattle.machine.specs.inner.Index.{capacity, Scratch}
+use Rattle.machine.specs.inner.Words.{words, tabled, key}
+use Rattle.machine.specs.inner.Refine.{Named, named, crowded, Rounded, rounded, overfull, Refined, refined, overmany, Begun, Crowd}
 use Rattle.machine.proofs.Keys.{key-split}
 
 -- a list copied over one of its length

@@ -23,7 +23,7 @@ use Rattle.rule.proofs.Situations.{asks-step, offers-step, joins-step, chosen-r
 use Rattle.mealy.specs.Runs.{Answer, taken, go, ends, reached}
 use Rattle.mealy.proofs.Runs.{untaken}
 use Rattle.machine.specs.Shim.{lettersOf, stepAnswer, letterAnswer, shim}
-use Rattle.machine.specs.Explore.{Output}
+use Rattle.machine.specs.inner.Explore.{Output}
 use Rattle.machine.specs.Spoken.{Letters, operations, puts}
 use Rattle.machine.proofs.Letters.{shim-step, letter-output}
 use Rattle.machine.proofs.Speaking.{undone}

@@ -18,7 +18,7 @@ use Rattle.rule.specs.Rule.{Ran, done, refused as stopped, behind, onward, run}
 use Rattle.rule.specs.Situation.{pending, choiceOf, stepOf, resumed, steps, fresh}
 use Rattle.rule.proofs.Continued.{follows, then, continued}
 use Rattle.rule.proofs.Theorems.{steps-are-the-rule}
-use Rattle.mealy.specs.Runs.{Answer, refused, taken, Machine, Told, refusal, output, after, tell, told, go, ends, heard, AcceptedFrom, reached, Same}
+use Rattle.mealy.specs.Runs.{Answer, refused, taken, Machine, Got, refusal, output, preceded, getting, gets, go, ends, isOutput, AcceptedFrom, reached, Same}
 use Rattle.mealy.proofs.Runs.{untaken, first-taken}
 use Rattle.machine.specs.Shim.{lettersOf, stepAnswer, letterAnswer, shim}
 use Rattle.machine.specs.Spoken.{Letters, operations, puts, spelt, spelling, say, spoken, AnswersLikeTheRule}
@@ -79,23 +79,23 @@ said [] os = []
 said (a ∷ w) [] = []
 said (a ∷ w) (o ∷ os) = puts a o ++ said w os
 
-abbrev pub heardAs : List ℕ → Told ℕ → Ran
-heardAs w (refusal k) = stopped k
-heardAs w (output os) = done (said w os)
+abbrev pub ranAs : List ℕ → Got ℕ → Ran
+ranAs w (refusal k) = stopped k
+ranAs w (output os) = done (said w os)
 
 module _ {S : Type 0} (m : Machine S ℕ) where
-  pub spoken-told : (s : S) (w : List ℕ) → spoken (spelling m) s w ≡ heardAs w (told m s w)
-  spoken-told s [] = refl
-  spoken-told s (a ∷ w) = look (λ t. spoken-told t w) (m .step s a)
+  pub spoken-gets : (s : S) (w : List ℕ) → spoken (spelling m) s w ≡ ranAs w (gets m s w)
+  spoken-gets s [] = refl
+  spoken-gets s (a ∷ w) = look (λ t. spoken-gets t w) (m .step s a)
     where
-      put : (o : ℕ) (x : Told ℕ) → behind (puts a o) (heardAs w x) ≡ heardAs (a ∷ w) (after o x)
+      put : (o : ℕ) (x : Got ℕ) → behind (puts a o) (ranAs w x) ≡ ranAs (a ∷ w) (preceded o x)
       put o (refusal k) = refl
       put o (output os) = refl
 
-      look : ((t : S) → spoken (spelling m) t w ≡ heardAs w (told m t w)) → (y : Answer ℕ S)
-          → say (spelt a y) (λ t. spoken (spelling m) t w) ≡ heardAs (a ∷ w) (tell y (λ t. told m t w))
+      look : ((t : S) → spoken (spelling m) t w ≡ ranAs w (gets m t w)) → (y : Answer ℕ S)
+          → say (spelt a y) (λ t. spoken (spelling m) t w) ≡ ranAs (a ∷ w) (getting y (λ t. gets m t w))
       look ih refused = refl
-      look ih (taken o t) = ap (behind (puts a o)) (ih t) ∙ put o (told m t w)
+      look ih (taken o t) = ap (behind (puts a o)) (ih t) ∙ put o (gets m t w)
 
   pub ends-spelt : (s : S) (w : List ℕ) → ends (spelling m) s w ≡ ends m s w
   ends-spelt s [] = refl
@@ -108,16 +108,16 @@ module _ {S : Type 0} (m : Machine S ℕ) where
 
   -- a stream is accepted where its run is done, and then it has only letters of the machine
   pub done-accepted : (s : S) (w : List ℕ) (out : Stream) → spoken (spelling m) s w ≡ done out → AcceptedFrom m s w
-  done-accepted s w out e = look (told m s w) (sym (spoken-told s w) ∙ e)
+  done-accepted s w out e = look (gets m s w) (sym (spoken-gets s w) ∙ e)
     where
-      look : (x : Told ℕ) → heardAs w x ≡ done out → T (heard x)
+      look : (x : Got ℕ) → ranAs w x ≡ done out → T (isOutput x)
       look (refusal k) h = absurd (undone h)
       look (output os) h = tt
 
   pub accepted-done : (s : S) (w : List ℕ) → AcceptedFrom m s w → (out : Stream) × (spoken (spelling m) s w ≡ done out)
-  accepted-done s w g = let o = look (told m s w) g in (o .0, spoken-told s w ∙ o .1)
+  accepted-done s w g = let o = look (gets m s w) g in (o .0, spoken-gets s w ∙ o .1)
     where
-      look : (x : Told ℕ) → T (heard x) → (out : Stream) × (heardAs w x ≡ done out)
+      look : (x : Got ℕ) → T (isOutput x) → (out : Stream) × (ranAs w x ≡ done out)
       look (refusal k) h = absurd h
       look (output os) h = (said w os, refl)
 
@@ -131,17 +131,17 @@ module _ {S : Type 0} (m : Machine S ℕ) where
 
   -- two situations that every stream of letters gets the same run from are the same state, where the fence byte is told by what is put out
   module _ (apart : (a o p : ℕ) (s t u v : S) → m .step s a ≡ taken o u → m .step t a ≡ taken p v → puts a o ≡ puts a p → o ≡ p) where
-    pub alike-told : (w : List ℕ) (s t : S)
-        → ((x : List ℕ) → Letters (m .letters) x → spoken (spelling m) s x ≡ spoken (spelling m) t x) → told m s w ≡ told m t w
-    alike-told [] s t h = refl
-    alike-told (a ∷ w) s t h =
+    pub alike-gets : (w : List ℕ) (s t : S)
+        → ((x : List ℕ) → Letters (m .letters) x → spoken (spelling m) s x ≡ spoken (spelling m) t x) → gets m s w ≡ gets m t w
+    alike-gets [] s t h = refl
+    alike-gets (a ∷ w) s t h =
         elim (decLt a (m .letters)) [
-          | yes l ↦ look l (alike-told w) (m .step s a) refl (m .step t a) refl
+          | yes l ↦ look l (alike-gets w) (m .step s a) refl (m .step t a) refl
           | no l ↦ rw (m .outside s a (omega arith), m .outside t a (omega arith))
         ]
       where
-        look : a < m .letters → ((u v : S) → ((x : List ℕ) → Letters (m .letters) x → spoken (spelling m) u x ≡ spoken (spelling m) v x) → told m u w ≡ told m v w)
-            → (y : Answer ℕ S) → m .step s a ≡ y → (z : Answer ℕ S) → m .step t a ≡ z → told m s (a ∷ w) ≡ told m t (a ∷ w)
+        look : a < m .letters → ((u v : S) → ((x : List ℕ) → Letters (m .letters) x → spoken (spelling m) u x ≡ spoken (spelling m) v x) → gets m u w ≡ gets m v w)
+            → (y : Answer ℕ S) → m .step s a ≡ y → (z : Answer ℕ S) → m .step t a ≡ z → gets m s (a ∷ w) ≡ gets m t (a ∷ w)
         look l ih refused e refused f = rw (e, f)
         look l ih refused e (taken p v) f = absurd (undone (rw (e, f) at (h (a ∷ []) (l, tt))))
         look l ih (taken o u) e refused f = absurd (undone (sym (rw (e, f) at (h (a ∷ []) (l, tt)))))
@@ -150,14 +150,14 @@ module _ {S : Type 0} (m : Machine S ℕ) where
             let put : puts a o ≡ puts a p = sym (append-nil (puts a o)) ∙ (cc) ∙ append-nil (puts a p) in
             let one : o ≡ p = apart a o p s t u v e f put in
             rw (e, f, one)
-            (ap (after p)
+            (ap (preceded p)
             (ih u v
             (λ x k.
             let both : behind (puts a o) (spoken (spelling m) u x) ≡ behind (puts a p) (spoken (spelling m) v x) = rw (e, f) at (h (a ∷ x) (l, k)) in
             behind-cancel (puts a p) _ _ (rw one at both))))
 
     pub alike-same : (s t : S) → ((x : List ℕ) → Letters (m .letters) x → spoken (spelling m) s x ≡ spoken (spelling m) t x) → Same m s t
-    alike-same s t h = record { same = λ w. alike-told w s t h }
+    alike-same s t h = record { same = λ w. alike-gets w s t h }
 
 module _ (way : Way) (up target : Model) where
   -- what answers like the rule goes on like it, after every stream that it accepts

@@ -7,238 +7,225 @@ use mathlib.Core.Logic.{_↔_}
 use mathlib.Core.List.{List, []}
 use native.Mathlib.Omega.{arith}
 use lib.ListN.{length, getD}
-use Rattle.tables.specs.declared.table.Table.{Table}
 use Rattle.rule.specs.declared.situation.Situation.{Situation}
 use Rattle.rule.specs.declared.way.Way.{Way}
+use Rattle.rule.specs.declared.way.Shim.{Shim}
 use Rattle.rule.specs.Stream.{Stream}
 use Rattle.rule.specs.Pairs.{Model}
+use Rattle.rule.specs.Sides.{upstreamOf, targetOf}
 use Rattle.rule.specs.Rule.{done, onward, run}
 use Rattle.mealy.specs.Runs.{Machine as Mealy, ends, reached, Same}
-use Rattle.mealy.specs.Order.{_≺_, _≼_}
+use Rattle.mealy.specs.Order.{_≺_}
 use Rattle.mealy.specs.Arrivals.{arrival, More}
 use Rattle.mealy.specs.Classes.{Closed}
 use Rattle.mealy.proofs.Pigeonhole.{pigeonhole}
-use Rattle.mealy.proofs.Unique.{first-without, apart-one, not-more}
+use Rattle.mealy.proofs.Numbers.{first-without}
+use Rattle.mealy.proofs.Unique.{apart-one, not-more, equal, same-states}
 use Rattle.mealy.proofs.Runs.{same-eq, same-trans, same-sym}
 use Rattle.mealy.proofs.Describing.{starts, lands, run-fresh, ends-within}
 use Rattle.machine.specs.Rows.{answering}
-use Rattle.machine.specs.Shim.{lettersOf, shimOf}
+use Rattle.machine.specs.Shim.{lettersOf, shim}
 use Rattle.machine.specs.Generated.{named, Generated}
-use Rattle.machine.specs.Spoken.{Letters, operations, spelling, spoken, AnswersLikeTheRule}
-use Rattle.machine.specs.Counted.{SameSituation, SameState, NumberOf, ManySituations, ManyStates}
+use Rattle.machine.specs.Spoken.{Letters, operations, spelling, machineOf, spoken, AnswersLikeTheRule}
+use Rattle.machine.specs.Counted.{SameSituation, SameState, NumberOf, ManySituations, ManyStates, FirstArrival}
 use Rattle.machine.specs.declared.machine.Machine.{Machine}
 use Rattle.machine.specs.declared.machine.Outcome.{Outcome}
-use Rattle.machine.proofs.Finish.{equal}
 use Rattle.machine.proofs.Zeros.{at-most-sixteen}
-use Rattle.machine.proofs.Unique.{alike, too-few}
-use Rattle.machine.proofs.Speaking.{heardAs, spoken-told, ends-spelt, goes-on, shim-like}
+use Rattle.machine.proofs.Unique.{too-few}
+use Rattle.machine.proofs.Speaking.{ranAs, spoken-gets, ends-spelt, goes-on, shim-like}
 use Rattle.machine.proofs.Counting.{run-accepted, accepted-run, same-state, many-situations, many-states}
 
--- the model that `generate` is given by a default table and packed fence tables
-abbrev pub modelOf : Table → List ℕ → Model
-modelOf ppo fences = record { ppo = ppo; fences = named fences }
+-- A shim with the packed tables of each side's fences, of which an operation can name the first sixteen.
+module _ (s : Shim) (ups fences : List ℕ) where
+  abbrev way : Way
+  way = s .way
 
--- the machine that is made, by its numbers and its rows, started at state 0; its outputs are streams
-abbrev pub machineOf : Machine → List ℕ → Mealy ℕ Stream
-machineOf x rows = spelling (answering (4 + x .ups) rows)
+  abbrev up : Model
+  up = upstreamOf s (named ups)
 
-module _ (way : Way) (up : Table) (ups : List ℕ) (target : Table) (fences rows : List ℕ) (x : Machine) (rows′ : List ℕ)
-    (made : Generated way up ups target fences rows (Outcome.Made x) rows′) where
+  abbrev target : Model
+  target = targetOf s (named fences)
+
+  -- the rule's own machine
+  abbrev m : Mealy Situation ℕ
+  m = shim way up target
+
   few : length (named fences) ≤ 16
   few = at-most-sixteen fences refl
 
-  m : Mealy Situation ℕ
-  m = shimOf way up (named ups) target (named fences)
+  module _ (rows : List ℕ) (x : Machine) (rows′ : List ℕ) (made : Generated s ups fences rows (Outcome.Made x) rows′) where
+    own : Mealy ℕ ℕ
+    own = answering (4 + length (named ups)) rows′
 
-  own : Mealy ℕ ℕ
-  own = answering (4 + length (named ups)) rows′
+    the-same : machineOf x rows′ ≡ spelling own
+    unfolding own
+    the-same = ap (λ (n : ℕ). spelling (answering (4 + n) rows′)) (made .its-ups)
 
-  the-same : machineOf x rows′ ≡ spelling own
-  unfolding own
-  the-same = ap (λ (n : ℕ). spelling (answering (4 + n) rows′)) (made .its-ups)
+    -- an accepted stream leads to a state, and that is the state of its situation
+    lands-at : (v : List ℕ) → Letters (lettersOf up) v → (out : Stream) → run way up target (operations v) ≡ done out
+        → (ends own 0 v < x .states) × Same m (arrival m (made .states .streams) (ends own 0 v)) (reached m v)
+    unfolding own
+    lands-at v h out e =
+        let s = starts m (Same m) (made .states) (λ s t r. r) in
+        lands m (Same m) (made .states) (λ s t r. r) 0 (s .0) (m .fresh) (same-eq m (ap (reached m) (s .1))) v
+        (run-accepted way up target few v h out e)
 
-  -- an accepted stream leads to a state, and that is the state of its situation
-  lands-at : (v : List ℕ) → Letters (lettersOf (modelOf up ups)) v → (out : Stream) → run way (modelOf up ups) (modelOf target fences) (operations v) ≡ done out
-      → (ends own 0 v < x .states) × Same m (arrival m (made .states .streams) (ends own 0 v)) (reached m v)
-  unfolding m own
-  lands-at v h out e =
-      let s = starts m (Same m) (made .states) (λ s t r. r) in
-      lands m (Same m) (made .states) (λ s t r. r) 0 (s .0) (m .fresh) (same-eq m (ap (reached m) (s .1))) v
-      (run-accepted way (modelOf up ups) (modelOf target fences) few v h out e)
+    one-state : (i j : ℕ) → i < x .states → j < x .states
+        → Same m (arrival m (made .states .streams) i) (arrival m (made .states .streams) j) → i ≡ j
+    one-state i j h l s =
+        apart-one m (Same m) (same-states m) (made .states .streams) (made .states .first .apart) i j
+        (omega (arith, made .states .count))
+        (omega (arith, made .states .count))
+        s
 
-  one-state : (i j : ℕ) → i < x .states → j < x .states
-      → Same m (arrival m (made .states .streams) i) (arrival m (made .states .streams) j) → i ≡ j
-  unfolding m
-  one-state i j h l s =
-      apart-one m (Same m) (alike m) (made .states .streams) (made .states .first .apart) i j
-      (omega (arith, made .states .count))
-      (omega (arith, made .states .count))
-      s
+    -- The machine's run from state 0 is the rule's run, on every stream of letters: the same output, or the same refusal at the same index.
+    pub runs-like-the-rule : AnswersLikeTheRule way up target (machineOf x rows′)
+    unfolding own
+    runs-like-the-rule w h =
+        ap (λ (n : Mealy ℕ Stream). spoken n (n .fresh) w) the-same
+        ∙ spoken-gets own 0 w
+        ∙ ap (ranAs w) (run-fresh m (Same m) (made .states) (λ s t r. r) w)
+        ∙ sym (spoken-gets m (m .fresh) w)
+        ∙ shim-like way up target few w h
 
-  -- The machine's run from state 0 is the rule's run, on every stream of letters: the same output, or the same refusal at the same index.
-  pub runs-like-the-rule : AnswersLikeTheRule way (modelOf up ups) (modelOf target fences) (machineOf x rows′)
-  unfolding m own
-  runs-like-the-rule w h =
-      ap (λ (n : Mealy ℕ Stream). spoken n (n .fresh) w) the-same
-      ∙ spoken-told own 0 w
-      ∙ ap (heardAs w) (run-fresh m (Same m) (made .states) (λ s t r. r) w)
-      ∙ sym (spoken-told m (m .fresh) w)
-      ∙ shim-like way (modelOf up ups) (modelOf target fences) few w h
+    -- A run from any state is the continuation of any accepted stream that leads there.
+    pub run-from-a-state : (i : ℕ) (v : List ℕ) → Letters (lettersOf up) v → (out : Stream)
+        → run way up target (operations v) ≡ done out → reached (machineOf x rows′) v ≡ i
+        → (w : List ℕ) → Letters (lettersOf up) w
+        → spoken (machineOf x rows′) i w ≡ onward way up target (operations v) out (operations w)
+    run-from-a-state i v h out e leads w l =
+        ap (λ (j : ℕ). spoken (machineOf x rows′) j w) (sym leads)
+        ∙ goes-on way up target (machineOf x rows′) runs-like-the-rule v h out e w l
 
-  -- A run from any state is the continuation of any accepted stream that leads there.
-  pub run-from-a-state : (i : ℕ) (v : List ℕ) → Letters (lettersOf (modelOf up ups)) v → (out : Stream)
-      → run way (modelOf up ups) (modelOf target fences) (operations v) ≡ done out → reached (machineOf x rows′) v ≡ i
-      → (w : List ℕ) → Letters (lettersOf (modelOf up ups)) w
-      → spoken (machineOf x rows′) i w ≡ onward way (modelOf up ups) (modelOf target fences) (operations v) out (operations w)
-  run-from-a-state i v h out e leads w l =
-      ap (λ (j : ℕ). spoken (machineOf x rows′) j w) (sym leads)
-      ∙ goes-on way (modelOf up ups) (modelOf target fences) (machineOf x rows′) runs-like-the-rule v h out e w l
+    led : (v : List ℕ) → reached (machineOf x rows′) v ≡ ends own 0 v
+    unfolding own
+    led v = ap (λ (n : Mealy ℕ Stream). ends n (n .fresh) v) the-same ∙ ends-spelt own 0 v
 
-  led : (v : List ℕ) → reached (machineOf x rows′) v ≡ ends own 0 v
-  unfolding own
-  led v = ap (λ (n : Mealy ℕ Stream). ends n (n .fresh) v) the-same ∙ ends-spelt own 0 v
+    -- Every accepted stream leads to a state of the machine.
+    pub leads-to-a-state : (v : List ℕ) → Letters (lettersOf up) v → (out : Stream)
+        → run way up target (operations v) ≡ done out → reached (machineOf x rows′) v < x .states
+    leads-to-a-state v h out e = rw (led v) (lands-at v h out e .0)
 
-  -- Every accepted stream leads to a state of the machine.
-  pub leads-to-a-state : (v : List ℕ) → Letters (lettersOf (modelOf up ups)) v → (out : Stream)
-      → run way (modelOf up ups) (modelOf target fences) (operations v) ≡ done out → reached (machineOf x rows′) v < x .states
-  leads-to-a-state v h out e = rw (led v) (lands-at v h out e .0)
+    -- Two accepted streams lead to the same state exactly when every continuation gets the same further output and refusals.
+    pub same-state-exactly-when : (v w : List ℕ) → Letters (lettersOf up) v → Letters (lettersOf up) w → (out out′ : Stream)
+        → run way up target (operations v) ≡ done out
+        → run way up target (operations w) ≡ done out′
+        → (reached (machineOf x rows′) v ≡ reached (machineOf x rows′) w)
+        ↔ SameState way up target (operations v) out (operations w) out′
+    same-state-exactly-when v w h l out out′ e f = (
+      λ s y k. sym (run-from-a-state _ v h out e refl y k) ∙ run-from-a-state _ w l out′ f (sym s) y k,
+      λ s.
+          let p = lands-at v h out e in
+          let q = lands-at w l out′ f in
+          let r = same-state way up target few v w h l out out′ e f .1 s in
+          led v ∙ one-state _ _ (p .0) (q .0) (same-trans m (p .1) (same-trans m r (same-sym m (q .1)))) ∙ sym (led w),
+    )
 
-  -- Two accepted streams lead to the same state exactly when every continuation gets the same further output and refusals.
-  pub same-state-exactly-when : (v w : List ℕ) → Letters (lettersOf (modelOf up ups)) v → Letters (lettersOf (modelOf up ups)) w → (out out′ : Stream)
-      → run way (modelOf up ups) (modelOf target fences) (operations v) ≡ done out
-      → run way (modelOf up ups) (modelOf target fences) (operations w) ≡ done out′
-      → (reached (machineOf x rows′) v ≡ reached (machineOf x rows′) w)
-      ↔ SameState way (modelOf up ups) (modelOf target fences) (operations v) out (operations w) out′
-  unfolding m
-  same-state-exactly-when v w h l out out′ e f = (
-    λ s y k. sym (run-from-a-state _ v h out e refl y k) ∙ run-from-a-state _ w l out′ f (sym s) y k,
-    λ s.
-        let p = lands-at v h out e in
-        let q = lands-at w l out′ f in
-        let r = same-state way (modelOf up ups) (modelOf target fences) few v w h l out out′ e f .1 s in
-        led v ∙ one-state _ _ (p .0) (q .0) (same-trans m (p .1) (same-trans m r (same-sym m (q .1)))) ∙ sym (led w),
-  )
+    -- Every state has its first arrival, and the states are numbered in the order of these: shorter streams first, then by operation.
+    pub numbered-by-first-arrival : (firsts : ℕ → List ℕ) × ((i : ℕ) → i < x .states → FirstArrival way up target (machineOf x rows′) i (firsts i))
+        × ((i j : ℕ) → i < j → j < x .states → firsts i ≺ firsts j)
+    unfolding own
+    numbered-by-first-arrival = (
+      λ i. getD (made .states .streams) i [],
+      λ i h.
+          let l : i < length (made .states .streams) = omega (arith, made .states .count) in
+          let r = accepted-run way up target few (getD (made .states .streams) i []) (made .states .first .accepted i l) in
+          let p = lands-at (getD (made .states .streams) i []) (r .0) (r .1 .0) (r .1 .1) in
+          record {
+            letters = r .0;
+            out = r .1 .0;
+            accepted = r .1 .1;
+            leads = led (getD (made .states .streams) i []) ∙ one-state _ i (p .0) h (p .1);
+            first = λ w k out′ e s.
+                let q = lands-at w k out′ e in
+                let c = made .states .first .covers w (run-accepted way up target few w k out′ e) in
+                let one : c .0 ≡ i
+                = one-state (c .0) (ends own 0 w) (omega (arith, c .1, made .states .count)) (q .0) (same-trans m (c .2) (same-sym m (q .1)))
+                ∙ sym (led w)
+                ∙ s in
+                rw one at (c .3);
+          },
+      λ i j h l. made .states .first .rising i j h (omega (arith, made .states .count)),
+    )
 
-  -- The first arrival at a state: an accepted stream that leads there, and that no accepted stream that leads there arrives before.
-  pub record FirstArrival (i : ℕ) (v : List ℕ) : Type 0 where
-    pub letters : Letters (lettersOf (modelOf up ups)) v
-    pub out : Stream
-    pub accepted : run way (modelOf up ups) (modelOf target fences) (operations v) ≡ done out
-    pub leads : reached (machineOf x rows′) v ≡ i
-    pub first : (w : List ℕ) → Letters (lettersOf (modelOf up ups)) w → (out′ : Stream)
-        → run way (modelOf up ups) (modelOf target fences) (operations w) ≡ done out′ → reached (machineOf x rows′) w ≡ i → v ≼ w
+    -- Any machine on k states that answers like the rule has at least as many states.
+    pub fewest-states : (n : Mealy ℕ Stream) (k : ℕ) → n .fresh < k → Closed n k
+        → AnswersLikeTheRule way up target n → x .states ≤ k
+    fewest-states n k p c like =
+        let ws = made .states .streams in
+        let here : (i : ℕ) → i < length ws → Letters (lettersOf up) (getD ws i [])
+        × ((out : Stream) × (run way up target (operations (getD ws i [])) ≡ done out))
+        = λ i h. accepted-run way up target few (getD ws i []) (made .states .first .accepted i h) in
+        let fits : length ws ≤ k
+        = pigeonhole (length ws) k (λ i h. reached n (getD ws i [])) (λ i h. ends-within n k c (n .fresh) p (getD ws i []))
+        (λ i j h l lt e.
+        made .states .first .apart i j lt l
+        (same-state way up target few (getD ws i []) (getD ws j []) (here i h .0) (here j l .0) (here i h .1 .0) (here j l .1 .0) (here i h .1 .1) (here j l .1 .1) .1
+        (λ y r.
+        sym (goes-on way up target n like (getD ws i []) (here i h .0) (here i h .1 .0) (here i h .1 .1) y r)
+        ∙ ap (λ (s : ℕ). spoken n s y) e
+        ∙ goes-on way up target n like (getD ws j []) (here j l .0) (here j l .1 .0) (here j l .1 .1) y r))) in
+        omega (arith, fits, made .states .count)
 
-  -- Every state has its first arrival, and the states are numbered in the order of these: shorter streams first, then by operation.
-  pub numbered-by-first-arrival : (firsts : ℕ → List ℕ) × ((i : ℕ) → i < x .states → FirstArrival i (firsts i))
-      × ((i j : ℕ) → i < j → j < x .states → firsts i ≺ firsts j)
-  unfolding m own
-  numbered-by-first-arrival = (
-    λ i. getD (made .states .streams) i [],
-    λ i h.
-        let l : i < length (made .states .streams) = omega (arith, made .states .count) in
-        let r = accepted-run way (modelOf up ups) (modelOf target fences) few (getD (made .states .streams) i []) (made .states .first .accepted i l) in
-        let p = lands-at (getD (made .states .streams) i []) (r .0) (r .1 .0) (r .1 .1) in
+    situations-are : NumberOf (x .situations) way up target (SameSituation up target)
+    situations-are =
         record {
-          letters = r .0;
-          out = r .1 .0;
-          accepted = r .1 .1;
-          leads = led (getD (made .states .streams) i []) ∙ one-state _ i (p .0) h (p .1);
-          first = λ w k out′ e s.
-              let q = lands-at w k out′ e in
-              let c = made .states .first .covers w (run-accepted way (modelOf up ups) (modelOf target fences) few w k out′ e) in
-              let one : c .0 ≡ i
-              = one-state (c .0) (ends own 0 w) (omega (arith, c .1, made .states .count)) (q .0) (same-trans m (c .2) (same-sym m (q .1)))
-              ∙ sym (led w)
-              ∙ s in
-              rw one at (c .3);
-        },
-    λ i j h l. made .states .first .rising i j h (omega (arith, made .states .count)),
-  )
+          more = λ k h. many-situations way up target few k .0 (made .situations .more k h);
+          no-more = λ h.
+              not-more m _≡_ equal (x .situations) (made .situations .at-most)
+              (many-situations way up target few (x .situations) .1 h);
+        }
 
-  -- Any machine on k states that answers like the rule has at least as many states.
-  pub fewest-states : (n : Mealy ℕ Stream) (k : ℕ) → n .fresh < k → Closed n k
-      → AnswersLikeTheRule way (modelOf up ups) (modelOf target fences) n → x .states ≤ k
-  unfolding m
-  fewest-states n k p c like =
-      let ws = made .states .streams in
-      let here : (i : ℕ) → i < length ws → Letters (lettersOf (modelOf up ups)) (getD ws i [])
-      × ((out : Stream) × (run way (modelOf up ups) (modelOf target fences) (operations (getD ws i [])) ≡ done out))
-      = λ i h. accepted-run way (modelOf up ups) (modelOf target fences) few (getD ws i []) (made .states .first .accepted i h) in
-      let fits : length ws ≤ k
-      = pigeonhole (length ws) k (λ i h. reached n (getD ws i [])) (λ i h. ends-within n k c (n .fresh) p (getD ws i []))
-      (λ i j h l lt e.
-      made .states .first .apart i j lt l
-      (same-state way (modelOf up ups) (modelOf target fences) few (getD ws i []) (getD ws j []) (here i h .0) (here j l .0) (here i h .1 .0) (here j l .1 .0) (here i h .1 .1) (here j l .1 .1) .1
-      (λ y r.
-      sym (goes-on way (modelOf up ups) (modelOf target fences) n like (getD ws i []) (here i h .0) (here i h .1 .0) (here i h .1 .1) y r)
-      ∙ ap (λ (s : ℕ). spoken n s y) e
-      ∙ goes-on way (modelOf up ups) (modelOf target fences) n like (getD ws j []) (here j l .0) (here j l .1 .0) (here j l .1 .1) y r))) in
-      omega (arith, fits, made .states .count)
+    -- The number that the machine tells is the number of situations that accepted streams lead to.
+    pub situations-told : (n : ℕ) → (x .situations ≡ n)
+        ↔ NumberOf n way up target (SameSituation up target)
+    situations-told n = (
+      λ e.
+          subst (λ (k : ℕ). NumberOf k way up target (SameSituation up target)) e
+          situations-are,
+      λ c. first-without _ (situations-are .more) (situations-are .no-more) (c .more) (c .no-more),
+    )
 
-  situations-are : NumberOf (x .situations) way (modelOf up ups) (modelOf target fences) (SameSituation (modelOf up ups) (modelOf target fences))
-  unfolding m
-  situations-are =
-      record {
-        more = λ k h. many-situations way (modelOf up ups) (modelOf target fences) few k .0 (made .situations .more k h);
-        no-more = λ h.
-            not-more m _≡_ equal (x .situations) (made .situations .at-most)
-            (many-situations way (modelOf up ups) (modelOf target fences) few (x .situations) .1 h);
-      }
+  module _ (rows : List ℕ) (r : Outcome) (rows′ : List ℕ) (generated : Generated s ups fences rows r rows′) where
+    -- The refusal 8 is given exactly when more than 4,096 situations can be reached.
+    pub refused-8-exactly-when : (r ≡ Outcome.Situations) ↔ ManySituations way up target
+    refused-8-exactly-when = (λ e. both .0 (crowded r e generated), λ h. look r generated (both .1 h))
+      where
+        both : More m _≡_ 4096 ↔ ManySituations way up target
+        both = many-situations way up target few 4096
 
-  -- The number that the machine tells is the number of situations that accepted streams lead to.
-  pub situations-told : (n : ℕ) → (x .situations ≡ n)
-      ↔ NumberOf n way (modelOf up ups) (modelOf target fences) (SameSituation (modelOf up ups) (modelOf target fences))
-  situations-told n = (
-    λ e.
-        subst (λ (k : ℕ). NumberOf k way (modelOf up ups) (modelOf target fences) (SameSituation (modelOf up ups) (modelOf target fences))) e
-        situations-are,
-    λ c. first-without _ (situations-are .more) (situations-are .no-more) (c .more) (c .no-more),
-  )
+        crowded : (o : Outcome) → o ≡ Outcome.Situations → Generated s ups fences rows o rows′
+            → More m _≡_ 4096
+        crowded o e g = let c : Generated s ups fences rows Outcome.Situations rows′ = rw e at g in c .many
 
-module _ (way : Way) (up : Table) (ups : List ℕ) (target : Table) (fences rows : List ℕ) (r : Outcome) (rows′ : List ℕ)
-    (generated : Generated way up ups target fences rows r rows′) where
-  its : length (named fences) ≤ 16
-  its = at-most-sixteen fences refl
+        look : (o : Outcome) → Generated s ups fences rows o rows′
+            → More m _≡_ 4096 → o ≡ Outcome.Situations
+        look (Outcome.Made x) g h = absurd (not-more _ _≡_ equal 4096 (g .few-situations) h)
+        look Outcome.Situations g h = refl
+        look Outcome.States g h = absurd (not-more _ _≡_ equal 4096 (g .few-situations) h)
+        look Outcome.Room g h = absurd (not-more _ _≡_ equal 4096 (g .few-situations) h)
 
-  -- The refusal 8 is given exactly when more than 4,096 situations can be reached.
-  pub refused-8-exactly-when : (r ≡ Outcome.Situations) ↔ ManySituations way (modelOf up ups) (modelOf target fences)
-  refused-8-exactly-when = (λ e. both .0 (crowded r e generated), λ h. look r generated (both .1 h))
-    where
-      both : More (shimOf way up (named ups) target (named fences)) _≡_ 4096 ↔ ManySituations way (modelOf up ups) (modelOf target fences)
-      both = many-situations way (modelOf up ups) (modelOf target fences) its 4096
+    -- The refusal 9 is given exactly when the situations are not too many and the states are more than 255.
+    pub refused-9-exactly-when : (r ≡ Outcome.States)
+        ↔ ((ManySituations way up target → ⊥) × ManyStates way up target)
+    refused-9-exactly-when = (λ e. overfull r e generated, λ h. look r generated (h .0) (many .1 (h .1)))
+      where
+        both : More m _≡_ 4096 ↔ ManySituations way up target
+        both = many-situations way up target few 4096
 
-      crowded : (s : Outcome) → s ≡ Outcome.Situations → Generated way up ups target fences rows s rows′
-          → More (shimOf way up (named ups) target (named fences)) _≡_ 4096
-      crowded s e g = let c : Generated way up ups target fences rows Outcome.Situations rows′ = rw e at g in c .many
+        many : More m (Same m) 255
+            ↔ ManyStates way up target
+        many = many-states way up target few
 
-      look : (s : Outcome) → Generated way up ups target fences rows s rows′
-          → More (shimOf way up (named ups) target (named fences)) _≡_ 4096 → s ≡ Outcome.Situations
-      look (Outcome.Made x) g h = absurd (not-more _ _≡_ equal 4096 (g .few-situations) h)
-      look Outcome.Situations g h = refl
-      look Outcome.States g h = absurd (not-more _ _≡_ equal 4096 (g .few-situations) h)
-      look Outcome.Room g h = absurd (not-more _ _≡_ equal 4096 (g .few-situations) h)
+        overfull : (o : Outcome) → o ≡ Outcome.States → Generated s ups fences rows o rows′
+            → (ManySituations way up target → ⊥) × ManyStates way up target
+        overfull o e g =
+            let c : Generated s ups fences rows Outcome.States rows′ = rw e at g in
+            (λ h. not-more _ _≡_ equal 4096 (c .few-situations) (both .1 h), many .0 (c .many))
 
-  -- The refusal 9 is given exactly when the situations are not too many and the states are more than 255.
-  pub refused-9-exactly-when : (r ≡ Outcome.States)
-      ↔ ((ManySituations way (modelOf up ups) (modelOf target fences) → ⊥) × ManyStates way (modelOf up ups) (modelOf target fences))
-  refused-9-exactly-when = (λ e. overfull r e generated, λ h. look r generated (h .0) (many .1 (h .1)))
-    where
-      both : More (shimOf way up (named ups) target (named fences)) _≡_ 4096 ↔ ManySituations way (modelOf up ups) (modelOf target fences)
-      both = many-situations way (modelOf up ups) (modelOf target fences) its 4096
-
-      many : More (shimOf way up (named ups) target (named fences)) (Same (shimOf way up (named ups) target (named fences))) 255
-          ↔ ManyStates way (modelOf up ups) (modelOf target fences)
-      many = many-states way (modelOf up ups) (modelOf target fences) its
-
-      overfull : (s : Outcome) → s ≡ Outcome.States → Generated way up ups target fences rows s rows′
-          → (ManySituations way (modelOf up ups) (modelOf target fences) → ⊥) × ManyStates way (modelOf up ups) (modelOf target fences)
-      overfull s e g =
-          let c : Generated way up ups target fences rows Outcome.States rows′ = rw e at g in
-          (λ h. not-more _ _≡_ equal 4096 (c .few-situations) (both .1 h), many .0 (c .many))
-
-      look : (s : Outcome) → Generated way up ups target fences rows s rows′ → (ManySituations way (modelOf up ups) (modelOf target fences) → ⊥)
-          → More (shimOf way up (named ups) target (named fences)) (Same (shimOf way up (named ups) target (named fences))) 255 → s ≡ Outcome.States
-      look (Outcome.Made x) g n h = absurd (too-few _ (g .states) (g .few-states) h)
-      look Outcome.Situations g n h = absurd (n (both .0 (g .many)))
-      look Outcome.States g n h = refl
-      look Outcome.Room g n h = absurd (too-few _ (g .described) (g .few-states) h)
+        look : (o : Outcome) → Generated s ups fences rows o rows′ → (ManySituations way up target → ⊥)
+            → More m (Same m) 255 → o ≡ Outcome.States
+        look (Outcome.Made x) g n h = absurd (too-few _ (g .states) (g .few-states) h)
+        look Outcome.Situations g n h = absurd (n (both .0 (g .many)))
+        look Outcome.States g n h = refl
+        look Outcome.Room g n h = absurd (too-few _ (g .described) (g .few-states) h)

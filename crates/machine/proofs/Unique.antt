@@ -9,31 +9,27 @@ use borrow.Author.Tests.{ne-eqb}
 use lib.ListN.{length}
 use lib.Seq.{ext-getD}
 use Rattle.ground.specs.Bytes.{at}
-use Rattle.tables.specs.declared.table.Table.{Table}
 use Rattle.operations.specs.Alphabet.{stride}
 use Rattle.rule.specs.declared.situation.Situation.{Situation}
 use Rattle.rule.specs.declared.way.Way.{Way}
+use Rattle.rule.specs.declared.way.Shim.{Shim}
 use Rattle.mealy.specs.Runs.{Answer, taken, Machine as Mealy, Same}
 use Rattle.mealy.specs.Arrivals.{More, Described}
-use Rattle.mealy.proofs.Runs.{untaken, same-sym, same-trans}
-use Rattle.mealy.proofs.Unique.{Alike, not-more, arrivals-at-most, exactly-unique, described-unique}
-use Rattle.machine.specs.Rows.{decoded, rowOf}
+use Rattle.mealy.proofs.Runs.{untaken}
+use Rattle.mealy.proofs.Unique.{equal, same-states, not-more, described-at-most, exactly-unique, described-unique}
+use Rattle.machine.specs.Rows.{decoded, answerAt}
 use Rattle.machine.specs.Shim.{shimOf}
-use Rattle.machine.specs.Generated.{Canonical, refusing, passing, Making, Roomless, Built, named, Generated}
+use Rattle.machine.specs.Generated.{ProperWord, refusing, passing, Making, Roomless, Built, named, Generated}
 use Rattle.machine.specs.declared.machine.Machine.{Machine}
 use Rattle.machine.specs.declared.machine.Outcome.{Outcome}
-use Rattle.machine.proofs.Finish.{equal}
 use Rattle.machine.proofs.Zeros.{at-most-sixteen}
-
-pub alike : {S O : Type 0} (m : Mealy S O) → Alike (Same m)
-alike m = record { back = λ s t h. same-sym m h; on = λ s t u h k. same-trans m h k }
 
 passes : (targets w : ℕ) → targets ≤ 16 → (w / 256 < targets) ⊎ (w / 256 ≡ 255) → decoded w ≡ taken (w / 256) (w % 256)
 passes targets w few (inl h) = rw (ne-eqb (w / 256) 254 (λ e. omega arith)) refl
 passes targets w few (inr h) = rw (ne-eqb (w / 256) 254 (λ e. omega arith)) refl
 
 -- of words that the rows may hold, two that say the same are one
-same-word : (targets states v w : ℕ) → targets ≤ 16 → Canonical targets states v → Canonical targets states w → decoded v ≡ decoded w → v ≡ w
+same-word : (targets states v w : ℕ) → targets ≤ 16 → ProperWord targets states v → ProperWord targets states w → decoded v ≡ decoded w → v ≡ w
 same-word targets states v w few (refusing p) (refusing q) e = p ∙ sym q
 same-word targets states v w few (refusing p) (passing q n) e =
     absurd (untaken (sym (ap decoded p) ∙ e ∙ passes targets w few q))
@@ -48,23 +44,24 @@ same-word targets states v w few (passing p n) (passing q o) e =
 -- 255 states at most are not more than 255
 pub too-few : (m : Mealy Situation ℕ) {k : ℕ} {row : ℕ → ℕ → Answer ℕ ℕ} → Described m (Same m) k row → k ≤ 255 → More m (Same m) 255 → ⊥
 too-few m d low more =
-    not-more m (Same m) (alike m) 255 (arrivals-at-most m (Same m) (alike m) (d .first) 255 (omega (arith, d .count))) more
+    not-more m (Same m) (same-states m) 255 (described-at-most m (Same m) (same-states m) d 255 low) more
 
 module _ (m : Mealy Situation ℕ) (way : Way) (ups targets : ℕ) (letters : m .letters ≡ 4 + ups) (few : targets ≤ 16) (rows : List ℕ) where
   too-short : {x : Machine} {rows₁ rows₂ : List ℕ} → Making m way ups targets rows x rows₁ → Roomless m rows rows₂ → ⊥
   too-short {x} {rows₁} b c =
-      omega (arith, described-unique m (Same m) (alike m) (b .states) (c .described) .0, b .room, c .short)
+      omega (arith, described-unique m (Same m) (same-states m) (b .states) (c .described) .0, b .room, c .short)
 
   module _ {x y : Machine} {rows₁ rows₂ : List ℕ} (b : Making m way ups targets rows x rows₁) (c : Making m way ups targets rows y rows₂) where
-    one : (x .states ≡ y .states) × ((q a : ℕ) → q < x .states → a < m .letters → rowOf rows₁ q a ≡ rowOf rows₂ q a)
-    one = described-unique m (Same m) (alike m) (b .states) (c .states)
+    one : (x .states ≡ y .states) × ((q a : ℕ) → q < x .states → a < m .letters → answerAt rows₁ q a ≡ answerAt rows₂ q a)
+    one = described-unique m (Same m) (same-states m) (b .states) (c .states)
 
     word-one : (q a : ℕ) → q < x .states → a < stride → at rows₁ (q * stride + a) ≡ at rows₂ (q * stride + a)
     word-one q a h l = look (decLt a (4 + ups))
       where
         look : Dec (a < 4 + ups) → at rows₁ (q * stride + a) ≡ at rows₂ (q * stride + a)
         look (yes k) =
-            same-word targets (x .states) _ _ few (b .words q a h k) (rw (← one .0) at (c .words q a (rw (one .0) at h) k)) (one .1 q a h (rw letters k))
+            let other = c .words q a (rw (one .0) at h) k in
+            same-word targets (x .states) _ _ few (b .words q a h k) (rw (← one .0) at other) (one .1 q a h (rw letters k))
         look (no k) = b .absent q a h (omega arith) l ∙ sym (c .absent q a (rw (one .0) at h) (omega arith) l)
 
     at-one : (p : ℕ) → at rows₁ p ≡ at rows₂ p
@@ -109,8 +106,8 @@ module _ (m : Mealy Situation ℕ) (way : Way) (ups targets : ℕ) (letters : m 
   built-unique Outcome.Room Outcome.States b c = absurd (too-few m (b .described) (b .few-states) (c .many))
   built-unique Outcome.Room Outcome.Room b c = (refl, b .same ∙ sym (c .same))
 
--- Two outcomes with their rows that generating allows for the same models, way and rows are one.
-pub generated-unique : (way : Way) (up : Table) (ups : List ℕ) (target : Table) (fences rows : List ℕ) (r s : Outcome) {rows₁ rows₂ : List ℕ}
-    → Generated way up ups target fences rows r rows₁ → Generated way up ups target fences rows s rows₂ → (r ≡ s) × (rows₁ ≡ rows₂)
-generated-unique way up ups target fences rows r s b c =
-    built-unique (shimOf way up (named ups) target (named fences)) way _ (length (named fences)) refl (at-most-sixteen fences refl) rows r s b c
+-- Two outcomes with their rows that generating allows for the same shim, fences and rows are one.
+pub generated-unique : (s : Shim) (ups fences rows : List ℕ) (r q : Outcome) {rows₁ rows₂ : List ℕ}
+    → Generated s ups fences rows r rows₁ → Generated s ups fences rows q rows₂ → (r ≡ q) × (rows₁ ≡ rows₂)
+generated-unique s ups fences rows r q b c =
+    built-unique (shimOf s (named ups) (named fences)) (s .way) _ (length (named fences)) refl (at-most-sixteen fences refl) rows r q b c

@@ -5,8 +5,8 @@ use mathlib.Core.List.{List}
 use native.Mathlib.Omega.{arith}
 use native.Mathlib.Decide.{decLt}
 use lib.ListN.{length, take, replicate, length-take, length-replicate, getD-replicate, List·getD-eq-default}
-use Rattle.machine.specs.Index.{Scratch, Index}
-use Rattle.machine.specs.Explore.{Blank}
+use Rattle.machine.specs.inner.Index.{Scratch, Index}
+use Rattle.machine.specs.inner.Explore.{Blank}
 use Rattle.machine.proofs.Naming.{empty-index}
 
 -- the arrays of an index, as they are made

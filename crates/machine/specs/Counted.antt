@@ -9,6 +9,8 @@ use Rattle.rule.specs.Stream.{Stream}
 use Rattle.rule.specs.Pairs.{Model}
 use Rattle.rule.specs.Rule.{done, onward, run}
 use Rattle.rule.specs.Situation.{situation}
+use Rattle.mealy.specs.Runs.{Machine, reached}
+use Rattle.mealy.specs.Order.{_≼_}
 use Rattle.machine.specs.Shim.{lettersOf}
 use Rattle.machine.specs.Spoken.{Letters, operations}
 
@@ -42,3 +44,11 @@ ManyStates way up target = MoreThan 255 way up target (SameState way up target)
 pub record NumberOf (n : ℕ) (way : Way) (up target : Model) (R : Stream → Stream → Stream → Stream → Type 0) : Type 0 where
   pub more : (k : ℕ) → k < n → MoreThan k way up target R
   pub no-more : MoreThan n way up target R → ⊥
+
+-- the first arrival at a state of a machine: an accepted stream that leads there, and that no accepted stream that leads there arrives before
+pub record FirstArrival {S : Type 0} (way : Way) (up target : Model) (m : Machine S Stream) (i : S) (v : List ℕ) : Type 0 where
+  pub letters : Letters (lettersOf up) v
+  pub out : Stream
+  pub accepted : run way up target (operations v) ≡ done out
+  pub leads : reached m v ≡ i
+  pub first : (w : List ℕ) → Letters (lettersOf up) w → (out′ : Stream) → run way up target (operations w) ≡ done out′ → reached m w ≡ i → v ≼ w

@@ -6,22 +6,22 @@ use mathlib.Core.Logic.{_⊎_}
 use mathlib.Core.List.{List}
 use lib.ListN.{length, take}
 use Rattle.ground.specs.Bytes.{at}
-use Rattle.tables.specs.declared.table.Table.{Table}
 use Rattle.operations.specs.Alphabet.{stride}
 use Rattle.rule.specs.declared.situation.Situation.{Situation}
 use Rattle.rule.specs.declared.way.Way.{Way}
+use Rattle.rule.specs.declared.way.Shim.{Shim}
 use Rattle.rule.specs.Rule.{wayNumber}
 use Rattle.mealy.specs.Runs.{Answer, Machine as Mealy, Same}
 use Rattle.mealy.specs.Arrivals.{More, AtMost, Exactly, Described}
-use Rattle.machine.specs.Rows.{rowOf}
+use Rattle.machine.specs.Rows.{answerAt}
 use Rattle.machine.specs.Shim.{shimOf}
 use Rattle.machine.specs.declared.machine.Machine.{Machine}
 use Rattle.machine.specs.declared.machine.Outcome.{Outcome}
 
 -- the word of a refusal; and one of an output, which is a target fence's number or none, and of a next state
-pub data Canonical (targets states w : ℕ) : Type 0 where
-  refusing : w ≡ 65024 → Canonical targets states w
-  passing : (w / 256 < targets) ⊎ (w / 256 ≡ 255) → w % 256 < states → Canonical targets states w
+pub data ProperWord (targets states w : ℕ) : Type 0 where
+  refusing : w ≡ 65024 → ProperWord targets states w
+  passing : (w / 256 < targets) ⊎ (w / 256 ≡ 255) → w % 256 < states → ProperWord targets states w
 
 -- the machine made: it tells how many situations there are, its rows describe the states, and all else of the array is as it was
 pub record Making (m : Mealy Situation ℕ) (way : Way) (ups targets : ℕ) (rows : List ℕ) (x : Machine) (rows′ : List ℕ) : Type 0 where
@@ -31,10 +31,10 @@ pub record Making (m : Mealy Situation ℕ) (way : Way) (ups targets : ℕ) (row
   pub few-situations : AtMost m _≡_ 4096
   pub situations : Exactly m _≡_ (x .situations)
   pub few-states : x .states ≤ 255
-  pub states : Described m (Same m) (x .states) (rowOf rows′)
+  pub states : Described m (Same m) (x .states) (answerAt rows′)
   pub size : length rows′ ≡ length rows
   pub room : x .states * stride ≤ length rows
-  pub words : (q a : ℕ) → q < x .states → a < 4 + ups → Canonical targets (x .states) (at rows′ (q * stride + a))
+  pub words : (q a : ℕ) → q < x .states → a < 4 + ups → ProperWord targets (x .states) (at rows′ (q * stride + a))
   pub absent : (q a : ℕ) → q < x .states → 4 + ups ≤ a → a < stride → at rows′ (q * stride + a) ≡ 0
   pub kept : (p : ℕ) → x .states * stride ≤ p → at rows′ p ≡ at rows p
 
@@ -57,6 +57,7 @@ pub record Roomless (m : Mealy Situation ℕ) (rows rows′ : List ℕ) : Type 0
   pub described : Described m (Same m) states row
   pub short : length rows < states * stride
 
+-- what becomes of the rows, by the outcome
 abbrev pub Built : Mealy Situation ℕ → Way → ℕ → ℕ → List ℕ → Outcome → List ℕ → Type 0
 Built m way ups targets rows (Outcome.Made x) rows′ = Making m way ups targets rows x rows′
 Built m way ups targets rows Outcome.Situations rows′ = Crowded m rows rows′
@@ -67,6 +68,7 @@ Built m way ups targets rows Outcome.Room rows′ = Roomless m rows rows′
 abbrev pub named : List ℕ → List ℕ
 named fences = take 16 fences
 
-abbrev pub Generated : Way → Table → List ℕ → Table → List ℕ → List ℕ → Outcome → List ℕ → Type 0
-Generated way up ups target fences rows r rows′ =
-    Built (shimOf way up (named ups) target (named fences)) way (length (named ups)) (length (named fences)) rows r rows′
+-- what generating makes of a shim with these fences' packed tables on its two sides
+abbrev pub Generated : Shim → List ℕ → List ℕ → List ℕ → Outcome → List ℕ → Type 0
+Generated s ups fences rows r rows′ =
+    Built (shimOf s (named ups) (named fences)) (s .way) (length (named ups)) (length (named fences)) rows r rows′

@@ -1,9 +1,6 @@
-pub mod Index
-pub mod Words
-pub mod Refine
-pub mod Rows
 pub mod Shim
-pub mod Explore
+pub mod Rows
 pub mod Generated
 pub mod Spoken
 pub mod Counted
+pub mod inner

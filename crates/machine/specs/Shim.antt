@@ -5,15 +5,15 @@ use mathlib.Core.List.{List}
 use borrow.Author.Tests.{le-ltb}
 use lib.ListN.{length}
 use lib.Dec.{ltb}
-use Rattle.tables.specs.declared.table.Table.{Table}
 use Rattle.operations.specs.Alphabet.{accessLetters, lettersWith, kindOf}
 use Rattle.rule.specs.declared.situation.Situation.{Situation}
 use Rattle.rule.specs.declared.way.Way.{Way}
+use Rattle.rule.specs.declared.way.Shim.{Shim}
 use Rattle.rule.specs.declared.way.Step.{Step}
 use Rattle.rule.specs.Pairs.{Model, fenceTable}
+use Rattle.rule.specs.Sides.{upstreamOf, targetOf}
 use Rattle.rule.specs.Situation.{fresh, asks, stepped}
 use Rattle.mealy.specs.Runs.{Answer, refused, taken, Machine}
-use Rattle.machine.specs.declared.step.Answered.{Answered}
 
 -- the letters of an upstream model
 abbrev pub lettersOf : Model → ℕ
@@ -40,10 +40,6 @@ shim way up target =
       fresh = fresh;
     }
 
--- the same of two default tables and the fences' packed tables
-abbrev pub shimOf : Way → Table → List ℕ → Table → List ℕ → Machine Situation ℕ
-shimOf way up ups target fences = shim way (record { ppo = up; fences = ups }) (record { ppo = target; fences = fences })
-
-abbrev pub meant : Answered → Answer ℕ Situation
-meant Answered.Refused = refused
-meant (Answered.Taken o s) = taken o s
+-- the same of a shim's way and defaults, and the packed tables of each side's fences
+abbrev pub shimOf : Shim → List ℕ → List ℕ → Machine Situation ℕ
+shimOf s ups fences = shim (s .way) (upstreamOf s ups) (targetOf s fences)

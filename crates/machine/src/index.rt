@@ -4,12 +4,8 @@
 ghost use Prim.Native.Nat.{_+_, _*_, _<_};
 ghost use mathlib.Core.Path.{_≡_};
 ghost use lib.ListN.{length};
-ghost use Rattle.machine.specs.Index.{bucketOf, capacity, Index, Holds, FoundAt, Pushed, Placed};
-
-pub enum Found {
-    At(usize),
-    Nothing,
-}
+ghost use Rattle.machine.specs.inner.Index.{bucketOf, capacity, Index, Holds, Absent, FoundAt, Pushed, Placed};
+use ground::Found;
 
 // A link as an index: one more than a place, or 0 where the chain ends.
 fn wide(x: u16) -> usize
@@ -50,7 +46,7 @@ fn find<'a>(pairs: &'a [u64], links: &'a [u16], count: usize, need: u64, low: u6
         }
         cursor = wide(links[4096 + place]);
     }
-    Found::Nothing
+    Found::Nowhere
 }
 
 // Puts a pair at the next place.
@@ -67,6 +63,19 @@ fn push(pairs: &mut [u64], links: &mut [u16], count: usize, need: u64, low: u64)
     links[b] = link;
 }
 
+// Puts a pair that stands nowhere yet at the next place, if there is one, and gives the next place.
+fn add(pairs: &mut [u64], links: &mut [u16], count: usize, need: u64, low: u64) -> usize
+    requires { ⌜ Index (now pairs) (now links) count ⌝ }
+    requires { ⌜ Absent (now pairs) count need low ⌝ }
+    ensures { λ r. ⌜ Placed (now (pairs .entry)) count need low (now (pairs .exit)) (now (links .exit)) r ⌝ }
+{
+    if count == 4096 {
+        return count;
+    }
+    push(pairs, links, count, need, low);
+    count
+}
+
 // The place of a pair, which is put at the next place where it stands nowhere yet and there is room.
 pub(crate) fn place(
     pairs: &mut [u64],
@@ -78,12 +87,9 @@ pub(crate) fn place(
     requires { ⌜ Index (now pairs) (now links) count ⌝ }
     ensures { λ r. ⌜ Placed (now (pairs .entry)) count need low (now (pairs .exit)) (now (links .exit)) r ⌝ }
 {
-    if let Found::At(p) = find(pairs, links, count, need, low) {
-        return p;
+    let found = find(pairs, links, count, need, low);
+    match found {
+        Found::At(p) => p,
+        Found::Nowhere => add(pairs, links, count, need, low),
     }
-    if count == 4096 {
-        return count;
-    }
-    push(pairs, links, count, need, low);
-    count
 }

@@ -9,11 +9,13 @@ mod step;
 ghost use mathlib.Core.Path.{_≡_};
 ghost use lib.ListN.{take};
 ghost use Rattle.machine.specs.Generated.{Generated};
+ghost use Rattle.machine.specs.inner.Stages.{Few, Makes, Unused, Searched, Sorted};
+use crate::machine::ACCESSES;
 use crate::machine::Machine;
 use crate::machine::Outcome;
+use crate::machine::STRIDE;
 use rule::way;
-use rule::way::Way;
-use tables::table::Table;
+use rule::way::Shim;
 
 // The fences that an operation can name.
 fn named<'a>(fences: &'a [u64]) -> &'a [u64]
@@ -25,40 +27,78 @@ fn named<'a>(fences: &'a [u64]) -> &'a [u64]
     &fences[..16]
 }
 
-// Generates the machine of the upstream model on the target model, by their default tables and their fences' packed tables, and writes its rows.
-// The table of answers, 320 KiB, is on the stack of this call, and some 84 KiB of scratch on those of the calls in it.
-pub fn generate<'a>(
-    way: Way,
-    up: Table,
+// The states are found: writes their rows, if they fit.
+fn write<'a>(
+    shim: Shim,
     ups: &'a [u64],
-    target: Table,
     fences: &'a [u64],
+    table: &'a [u32],
+    classes: &'a [u8],
+    count: usize,
+    states: usize,
     rows: &mut [u16],
 ) -> Outcome
-    ensures { λ r. ⌜ Generated way up (now (ups .entry)) target (now (fences .entry)) (now (rows .entry)) r (now (rows .exit)) ⌝ }
+    requires { ⌜ Sorted shim (now ups) (now fences) (now table) (now classes) count states ⌝ }
+    ensures { λ r. ⌜ Makes shim (now (ups .entry)) (now (fences .entry)) (now (rows .entry)) r (now (rows .exit)) ⌝ }
 {
-    let own = named(ups);
-    let its = named(fences);
-    let mut table = [0u32; 81920];
-    let count = explore::explore(way, up, own, target, its, &mut table);
-    if 4096 < count {
-        return Outcome::Situations;
-    }
-    let letters = 4 + own.len();
-    let mut classes = [0u8; 4096];
-    let states = refine::refine(&table, &mut classes, count, letters);
-    if 255 < states {
-        return Outcome::States;
-    }
-    if rows.len() < states * 20 {
+    if rows.len() < states * STRIDE {
         return Outcome::Room;
     }
-    rows::write_rows(&table, &classes, rows, letters, count, states);
+    let way = shim.way;
+    rows::write_rows(table, classes, rows, ACCESSES + ups.len(), count, states);
     Outcome::Made(Machine {
         way: way::way_number(way),
         situations: count,
         states,
-        ups: own.len(),
-        targets: its.len(),
+        ups: ups.len(),
+        targets: fences.len(),
     })
+}
+
+// The situations are found: finds the states among them.
+fn sort<'a>(
+    shim: Shim,
+    ups: &'a [u64],
+    fences: &'a [u64],
+    table: &'a [u32],
+    count: usize,
+    rows: &mut [u16],
+) -> Outcome
+    requires { ⌜ Searched shim (now ups) (now fences) (now table) count ⌝ }
+    ensures { λ r. ⌜ Makes shim (now (ups .entry)) (now (fences .entry)) (now (rows .entry)) r (now (rows .exit)) ⌝ }
+{
+    let mut classes = [0u8; 4096];
+    let states = refine::refine(table, &mut classes, count, ACCESSES + ups.len());
+    if 255 < states {
+        return Outcome::States;
+    }
+    write(shim, ups, fences, table, &classes, count, states, rows)
+}
+
+// Finds the situations, in a table of answers in which nothing has been written.
+fn search<'a>(
+    shim: Shim,
+    ups: &'a [u64],
+    fences: &'a [u64],
+    table: &mut [u32],
+    rows: &mut [u16],
+) -> Outcome
+    requires { ⌜ Few (now ups) (now fences) × Unused (now table) ⌝ }
+    ensures { λ r. ⌜ Makes shim (now (ups .entry)) (now (fences .entry)) (now (rows .entry)) r (now (rows .exit)) ⌝ }
+{
+    let count = explore::explore(shim, ups, fences, table);
+    if 4096 < count {
+        return Outcome::Situations;
+    }
+    sort(shim, ups, fences, table, count, rows)
+}
+
+// Generates the machine of a shim, by its way and its two default tables, with the packed tables of the upstream model's fences and of the target
+// model's, and writes its rows.
+// The table of answers, 320 KiB, is on the stack of this call, and some 84 KiB of scratch on those of the calls in it.
+pub fn generate<'a>(shim: Shim, ups: &'a [u64], fences: &'a [u64], rows: &mut [u16]) -> Outcome
+    ensures { λ r. ⌜ Generated shim (now (ups .entry)) (now (fences .entry)) (now (rows .entry)) r (now (rows .exit)) ⌝ }
+{
+    let mut table = [0u32; 81920];
+    search(shim, named(ups), named(fences), &mut table, rows)
 }

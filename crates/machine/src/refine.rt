@@ -4,16 +4,11 @@ ghost use Prim.Native.Nat.{_+_, _*_, _^_, _<_, _≤_, max};
 ghost use mathlib.Core.Path.{_≡_};
 ghost use lib.ListN.{length, replicate};
 ghost use Rattle.operations.specs.Alphabet.{stride};
-ghost use Rattle.machine.specs.Index.{capacity, Scratch};
-ghost use Rattle.machine.specs.Refine.{Named, Begun, Rounded, Refined};
-ghost use Rattle.machine.specs.Words.{words, tabled, seen, key};
+ghost use Rattle.machine.specs.inner.Index.{capacity, Scratch};
+ghost use Rattle.machine.specs.inner.Refine.{Named, Begun, Rounded, Refined};
+ghost use Rattle.machine.specs.inner.Words.{words, Slot, tabled, seen, key};
 use crate::index;
-
-pub(crate) fn wide_class(x: u8) -> usize
-    ensures { λ r. ⌜ (r ≡ x) × (r < 256) ⌝ }
-{
-    x as usize
-}
+use crate::machine::STRIDE;
 
 pub(crate) fn wide_word(x: u32) -> usize
     ensures { λ r. ⌜ (r ≡ x) × (r < 2 ^ 32) ⌝ }
@@ -30,16 +25,16 @@ fn shown(word: usize, classes: &[u8]) -> usize
         return 0;
     }
     let target = word % 4096;
-    word / 4096 * 256 + wide_class(classes[target])
+    word / 4096 * 256 + ground::wide(classes[target])
 }
 
 // A situation's class with what a letter shows of it, as one number.
 fn key_of<'a>(table: &'a [u32], classes: &'a [u8], i: usize, a: usize) -> u64
-    requires { ⌜ (i < capacity) × (a < stride) × (length (now table) ≡ words) × (length (now classes) ≡ capacity) ⌝ }
+    requires { ⌜ Slot (now table) i a × (length (now classes) ≡ capacity) ⌝ }
     ensures { λ r. ⌜ r ≡ key (now (table .entry)) (now (classes .entry)) a i ⌝ }
 {
-    let word = wide_word(table[i * 20 + a]);
-    (wide_class(classes[i]) + 256 * shown(word, classes)) as u64
+    let word = wide_word(table[i * STRIDE + a]);
+    (ground::wide(classes[i]) + 256 * shown(word, classes)) as u64
 }
 
 // No pair is linked.
@@ -69,8 +64,8 @@ fn split_by<'a>(
     k: usize,
     a: usize,
 ) -> usize
-    requires { ⌜ (k ≤ capacity) × (a < stride) × (length (now table) ≡ words) × (length (now classes) ≡ capacity) × (length (now finer) ≡ capacity) ⌝ }
-    requires { ⌜ Scratch (now pairs) (now links) ⌝ }
+    requires { ⌜ (k ≤ capacity) × (a < stride) × (length (now table) ≡ words) ⌝ }
+    requires { ⌜ (length (now classes) ≡ capacity) × (length (now finer) ≡ capacity) × Scratch (now pairs) (now links) ⌝ }
     ensures { λ r. ⌜ Named k (key (now (table .entry)) (now (classes .entry)) a) (now (finer .exit)) r ⌝ }
 {
     clear(links);

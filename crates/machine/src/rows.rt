@@ -5,9 +5,10 @@ ghost use lib.ListN.{length};
 ghost use Rattle.ground.specs.Bytes.{at};
 ghost use Rattle.operations.specs.Alphabet.{stride};
 ghost use Rattle.mealy.specs.Classes.{Numbering};
-ghost use Rattle.machine.specs.Index.{capacity};
-ghost use Rattle.machine.specs.Words.{words};
-ghost use Rattle.machine.specs.Rows.{stateWord, stateEntry, RowWritten, RowsWritten, FirstWritten, Narrow};
+ghost use Rattle.machine.specs.inner.Index.{capacity};
+ghost use Rattle.machine.specs.inner.Words.{words, Slot};
+ghost use Rattle.machine.specs.inner.Writing.{stateWord, stateEntry, RowWritten, RowsWritten, FirstWritten, Narrow};
+use crate::machine::STRIDE;
 use crate::refine;
 
 // The word of a state where the table has this word.
@@ -19,19 +20,19 @@ fn state_word(word: usize, classes: &[u8]) -> u16
         return 65024;
     }
     let target = word % 4096;
-    let class = refine::wide_class(classes[target]);
+    let class = ground::wide(classes[target]);
     ((word / 4096 - 1) * 256 + class) as u16
 }
 
 fn state_entry<'a>(table: &'a [u32], classes: &'a [u8], letters: usize, i: usize, a: usize) -> u16
-    requires { ⌜ (i < capacity) × (a < stride) × (length (now table) ≡ words) × (length (now classes) ≡ capacity) ⌝ }
+    requires { ⌜ Slot (now table) i a × (length (now classes) ≡ capacity) ⌝ }
     requires { ⌜ Narrow (now table) ⌝ }
     ensures { λ r. ⌜ r ≡ stateEntry (now (table .entry)) (now (classes .entry)) letters i a ⌝ }
 {
     if letters <= a {
         return 0;
     }
-    let word = refine::wide_word(table[i * 20 + a]);
+    let word = refine::wide_word(table[i * STRIDE + a]);
     state_word(word, classes)
 }
 
@@ -49,8 +50,8 @@ fn write_row<'a>(
     ensures { λ _. ⌜ RowWritten (now (rows .entry)) q (stateEntry (now (table .entry)) (now (classes .entry)) letters i) stride (now (rows .exit)) ⌝ }
 {
     let mut a = 0;
-    while a < 20 {
-        rows[q * 20 + a] = state_entry(table, classes, letters, i, a);
+    while a < STRIDE {
+        rows[q * STRIDE + a] = state_entry(table, classes, letters, i, a);
         a += 1;
     }
 }
@@ -67,9 +68,11 @@ fn write_first<'a>(
     requires { ⌜ (i < capacity) × (length (now table) ≡ words) × (length (now classes) ≡ capacity) ⌝ }
     requires { ⌜ (at (now classes) i ≡ q → q * stride + stride ≤ length (now rows)) ⌝ }
     requires { ⌜ Narrow (now table) ⌝ }
-    ensures { λ r. ⌜ FirstWritten (at (now (classes .entry)) i) q (now (rows .entry)) (stateEntry (now (table .entry)) (now (classes .entry)) letters i) (now (rows .exit)) r ⌝ }
+    ensures { λ r.
+        ⌜ FirstWritten (at (now (classes .entry)) i) q (now (rows .entry))
+        (stateEntry (now (table .entry)) (now (classes .entry)) letters i) (now (rows .exit)) r ⌝ }
 {
-    let class = refine::wide_class(classes[i]);
+    let class = ground::wide(classes[i]);
     if class != q {
         return q;
     }
@@ -89,7 +92,9 @@ pub(crate) fn write_rows<'a>(
     requires { ⌜ (k ≤ capacity) × (length (now table) ≡ words) × (length (now classes) ≡ capacity) × (n * stride ≤ length (now rows)) ⌝ }
     requires { ⌜ Narrow (now table) ⌝ }
     requires { ⌜ Numbering k (at (now classes)) n ⌝ }
-    ensures { λ _. ⌜ ((x : Numbering k (at (now (classes .entry))) n) → RowsWritten (now (rows .entry)) n (λ q. stateEntry (now (table .entry)) (now (classes .entry)) letters (x .firsts q)) (now (rows .exit))) ⌝ }
+    ensures { λ _.
+        ⌜ ((x : Numbering k (at (now (classes .entry))) n)
+        → RowsWritten (now (rows .entry)) n (λ q. stateEntry (now (table .entry)) (now (classes .entry)) letters (x .firsts q)) (now (rows .exit))) ⌝ }
 {
     let mut q = 0;
     let mut i = 0;

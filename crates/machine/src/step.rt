@@ -1,13 +1,14 @@
 // One step of the rule, by a letter of the alphabet.
-ghost use Prim.Native.Nat.{_<_};
 ghost use mathlib.Core.Path.{_≡_};
-ghost use Rattle.machine.specs.Shim.{stepAnswer, letterAnswer, meant};
+ghost use Rattle.rule.specs.Sides.{upstreamOf, targetOf};
+ghost use Rattle.machine.specs.Shim.{stepAnswer, letterAnswer};
+ghost use Rattle.machine.specs.inner.Explore.{meant};
+use crate::machine::ACCESSES;
 use operations::alphabet;
 use rule::situation::Situation;
 use rule::way;
+use rule::way::Shim;
 use rule::way::Step;
-use rule::way::Way;
-use tables::table::Table;
 
 // The output, a fence's number or 255 for none, and the next situation.
 pub enum Answered {
@@ -25,19 +26,18 @@ fn put_before(step: Step) -> Answered
     }
 }
 
+// What letter a gets in situation s.
 pub(crate) fn answer<'a>(
-    way: Way,
-    up: Table,
+    shim: Shim,
     ups: &'a [u64],
-    target: Table,
     fences: &'a [u64],
     s: Situation,
     a: usize,
 ) -> Answered
-    ensures { λ r. ⌜ meant r ≡ letterAnswer way (record { ppo = up; fences = now (ups .entry) }) (record { ppo = target; fences = now (fences .entry) }) s a ⌝ }
+    ensures { λ r. ⌜ meant r ≡ letterAnswer (shim .way) (upstreamOf shim (now (ups .entry))) (targetOf shim (now (fences .entry))) s a ⌝ }
 {
-    if a < 4 {
-        return put_before(way::take(way, up, target, fences, s, alphabet::kind_of(a)));
+    if a < ACCESSES {
+        return put_before(way::take(shim, fences, s, alphabet::kind_of(a)));
     }
-    Answered::Taken(255, s.asks(way::fence_table(ups, a - 4)))
+    Answered::Taken(255, s.asks(way::fence_table(ups, a - ACCESSES)))
 }

@@ -5,9 +5,12 @@
 // The stored output comes from the model in `host/model`, which shares nothing with this code: `tools/expect-machine-cases` asks it for each pair.
 use answers::Verdict;
 use cases::fields::field;
+use machine::machine::ACCESSES;
 use machine::machine::Machine;
 use machine::machine::Outcome;
+use machine::machine::STRIDE;
 use models::model::Model;
+use rule::way::Shim;
 use rule::way::Way;
 
 // Room for 255 states.
@@ -28,18 +31,17 @@ fn front(tables: &[u64], n: usize) -> &[u64] {
 fn generate(way: u64, upstream: Model, target: Model, rows: &mut [u16]) -> Outcome {
     let ups = upstream.tables;
     let fences = target.tables;
-    let own = upstream.ppo;
-    let its = target.ppo;
     let n = upstream.fences;
     let k = target.fences;
-    machine::generate(
-        way_of(way),
-        own,
-        front(&ups, n),
-        its,
-        front(&fences, k),
-        rows,
-    )
+    let way = way_of(way);
+    let defaults = upstream.ppo;
+    let offered = target.ppo;
+    let shim = Shim {
+        way,
+        upstream: defaults,
+        target: offered,
+    };
+    machine::generate(shim, front(&ups, n), front(&fences, k), rows)
 }
 
 fn print_outcome(outcome: Outcome) {
@@ -113,7 +115,7 @@ fn print_letter(letter: usize) {
         }
         _ => {
             io::write_all(1, b" ");
-            io::print_decimal(1, (letter - 4) as u64);
+            io::print_decimal(1, (letter - ACCESSES) as u64);
             io::write_all(1, b" ");
         }
     }
@@ -133,8 +135,8 @@ fn print_word(word: u64) {
 
 fn word_at(rows: &[u16], state: usize, letter: usize) -> u64 {
     if state < 255 {
-        if letter < 20 {
-            let at = state * 20 + letter;
+        if letter < STRIDE {
+            let at = state * STRIDE + letter;
             if at < rows.len() {
                 return wide(rows[at]);
             }
@@ -149,7 +151,7 @@ fn wide(word: u16) -> u64 {
 
 fn letters_of(x: Machine) -> usize {
     let ups = x.ups;
-    if ups < 16 { 4 + ups } else { 20 }
+    if ups < 16 { ACCESSES + ups } else { STRIDE }
 }
 
 fn print_state(rows: &[u16], state: usize, letters: usize) {

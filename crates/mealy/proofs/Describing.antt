@@ -1,19 +1,18 @@
--- A described machine runs like the machine that it describes, and none that answers alike has fewer states. Assumes nothing.
-use Prim.Native.Nat.{ℕ, _≤_, _<_}
+-- A described machine runs like the machine that it describes: from each of its states, and from state 0 on every stream. Assumes nothing.
+use Prim.Native.Nat.{ℕ, _<_}
 use mathlib.Core.Path.{_≡_, refl, sym, _∙_, ap}
 use mathlib.Core.Logic.{⊎-elim}
-use mathlib.Core.List.{List, [], _∷_, _++_}
+use mathlib.Core.List.{List, [], _∷_}
 use native.Mathlib.Omega.{arith}
 use native.Mathlib.Decide.{decLt}
 use borrow.Author.Tests.{lt-ltb}
-use lib.ListN.{length, getD}
-use Rattle.mealy.specs.Runs.{Answer, refused, taken, Machine, Told, after, told, go, ends, Accepted, AcceptedFrom, reached, Same}
-use Rattle.mealy.specs.Arrivals.{arrival, Apart, AllAccepted, Entry, Described, numbered}
+use lib.ListN.{getD}
+use Rattle.mealy.specs.Runs.{Answer, refused, taken, Machine, preceded, gets, go, ends, AcceptedFrom, reached, Same}
+use Rattle.mealy.specs.Arrivals.{arrival, Entry, Described, numbered}
 use Rattle.mealy.specs.Classes.{Closed}
 use Rattle.mealy.proofs.Order.{below-nil, at-most-nil}
-use Rattle.mealy.proofs.Runs.{untaken, followed, followed-rest, told-append, same-eq, same-trans, same-refused, same-taken, first-taken}
-use Rattle.mealy.proofs.Pigeonhole.{pigeonhole}
-use Rattle.mealy.proofs.Unique.{order}
+use Rattle.mealy.proofs.Runs.{untaken, same-trans, same-refused, same-taken, first-taken}
+use Rattle.mealy.proofs.Numbers.{order}
 
 pub numbered-step : {O : Type 0} (n : ℕ) (row : ℕ → ℕ → Answer O ℕ) (i a : ℕ) → a < n → (numbered n row) .step i a ≡ row i a
 numbered-step n row i a h = rw (lt-ltb a n h)
@@ -42,15 +41,15 @@ module _ {S O : Type 0} (m : Machine S O) (R : S → S → Type 0) {k : ℕ} {ro
 
   module _ (finer : (s t : S) → R s t → Same m s t) where
     -- a run from a state is the run from where the state was first arrived at
-    pub run-from : (i : ℕ) → i < k → (w : List ℕ) → told machine i w ≡ told m (arrival m (d .streams) i) w
+    pub run-from : (i : ℕ) → i < k → (w : List ℕ) → gets machine i w ≡ gets m (arrival m (d .streams) i) w
     run-from i p [] = refl
     run-from i p (a ∷ w) = look (λ j q. run-from j q w) (stepped i a p)
       where
-        look : ((j : ℕ) → j < k → told machine j w ≡ told m (arrival m (d .streams) j) w)
+        look : ((j : ℕ) → j < k → gets machine j w ≡ gets m (arrival m (d .streams) j) w)
             → Stepped m R (d .streams) k (machine .step i a) (m .step (arrival m (d .streams) i) a)
-            → told machine i (a ∷ w) ≡ told m (arrival m (d .streams) i) (a ∷ w)
+            → gets machine i (a ∷ w) ≡ gets m (arrival m (d .streams) i) (a ∷ w)
         look ih (neither e f) = rw (e, f)
-        look ih (both o j t e f q r) = rw (e, f) (ap (after o) (ih j q ∙ finer _ _ r .same w))
+        look ih (both o j t e f q r) = rw (e, f) (ap (preceded o) (ih j q ∙ finer _ _ r .same w))
 
     -- a stream that is accepted from the same state ends in the same state
     pub lands : (i : ℕ) → i < k → (s : S) → Same m (arrival m (d .streams) i) s → (w : List ℕ) → AcceptedFrom m s w
@@ -84,19 +83,8 @@ module _ {S O : Type 0} (m : Machine S O) (R : S → S → Type 0) {k : ℕ} {ro
         (order 0 (here .0))
 
     -- the run from state 0 is the run from the fresh situation, on every stream, refusals too
-    pub run-fresh : (w : List ℕ) → told machine 0 w ≡ told m (m .fresh) w
-    run-fresh w = run-from 0 (starts .0) w ∙ ap (λ (v : List ℕ). told m (reached m v) w) (starts .1)
-
-    -- the run from the state where an accepted stream ends is the stream's continuation
-    pub continues : (v w : List ℕ) → Accepted m v → told machine (ends machine 0 v) w ≡ told m (reached m v) w
-    continues v w g =
-        let fresh : Same m (arrival m (d .streams) 0) (m .fresh) = same-eq m (ap (reached m) (starts .1)) in
-        let there = lands 0 (starts .0) (m .fresh) fresh v g in
-        run-from (ends machine 0 v) (there .0) w ∙ there .1 .same w
-
-    -- and so is the run from any state that the stream leads to
-    pub continues-from : (i : ℕ) → i < k → (s : S) → R (arrival m (d .streams) i) s → (w : List ℕ) → told machine i w ≡ told m s w
-    continues-from i p s r w = run-from i p w ∙ finer _ _ r .same w
+    pub run-fresh : (w : List ℕ) → gets machine 0 w ≡ gets m (m .fresh) w
+    run-fresh w = run-from 0 (starts .0) w ∙ ap (λ (v : List ℕ). gets m (reached m v) w) (starts .1)
 
 pub ends-within : {O : Type 0} (n : Machine ℕ O) (k : ℕ) → Closed n k → (i : ℕ) → i < k → (w : List ℕ) → ends n i w < k
 ends-within n k c i p [] = p
@@ -105,28 +93,3 @@ ends-within {O} n k c i p (a ∷ w) = look (λ j q. ends-within n k c j q w) (n 
     look : ((j : ℕ) → j < k → ends n j w < k) → (x : Answer O ℕ) → n .step i a ≡ x → go x i (λ j. ends n j w) < k
     look ih refused e = p
     look ih (taken o j) e = ih j (c .stays i a o j p e)
-
-module _ {S T O : Type 0} (m : Machine S O) (n : Machine T O) (alike : (w : List ℕ) → told n (n .fresh) w ≡ told m (m .fresh) w) where
-  -- machines that answer alike go on alike after a stream that they accept
-  pub alike-on : (v w : List ℕ) → Accepted m v → told n (reached n v) w ≡ told m (reached m v) w
-  alike-on v w g =
-      followed-rest (told m (m .fresh) v) g
-      (ap (λ (x : Told O). followed x (told n (reached n v) w)) (sym (alike v))
-      ∙ sym (told-append n (n .fresh) v w)
-      ∙ alike (v ++ w)
-      ∙ told-append m (m .fresh) v w)
-
--- a machine on k numbers that answers alike has a number for each of the streams, where no two lead to the same state
-pub fewest : {S O : Type 0} (m : Machine S O) (n : Machine ℕ O) (k : ℕ) → n .fresh < k → Closed n k
-    → ((w : List ℕ) → told n (n .fresh) w ≡ told m (m .fresh) w)
-    → (ws : List (List ℕ)) → AllAccepted m ws → Apart m (Same m) ws → length ws ≤ k
-fewest m n k p c alike ws good apart =
-    pigeonhole (length ws) k (λ i q. arrival n ws i) (λ i q. ends-within n k c (n .fresh) p (getD ws i []))
-    (λ i j q r l e.
-    apart i j l r
-    (record {
-      same = λ w.
-          sym (alike-on m n alike (getD ws i []) w (good i q))
-          ∙ ap (λ (t : ℕ). told n t w) e
-          ∙ alike-on m n alike (getD ws j []) w (good j r);
-    }))

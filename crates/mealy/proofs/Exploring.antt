@@ -13,31 +13,28 @@ use Rattle.mealy.specs.Arrivals.{arrival, More, Entry, Described}
 use Rattle.mealy.specs.Exploring.{Met, Before, Exploring}
 use Rattle.mealy.proofs.Order.{below-on, below-last, nil-below, at-most-on, at-most-trans}
 use Rattle.mealy.proofs.Runs.{untaken, accepted-on, ends-on, first-taken}
-use Rattle.mealy.proofs.Unique.{order}
-
-last-or-below : (p n : ℕ) → p < suc n → (p < n) ⊎ (p ≡ n)
-last-or-below p n h = ⊎-elim inl (⊎-elim inr (λ l. absurd (omega arith))) (order p n)
+use Rattle.mealy.proofs.Numbers.{split-last}
 
 -- the candidates before the next letter's
 before-next : {j b i a : ℕ} → Before j b i (a + 1) → Before j b i a ⊎ ((j ≡ i) × (b ≡ a))
 before-next (inl h) = inl (inl h)
-before-next {b = b} {a = a} (inr h) = ⊎-elim (λ l. inl (inr (h .0, l))) (λ e. inr (h .0, e)) (last-or-below b a (omega arith))
+before-next {b = b} {a = a} (inr h) = ⊎-elim (λ l. inl (inr (h .0, l))) (λ e. inr (h .0, e)) (split-last b a (omega arith))
 
 before-on : {j b i a : ℕ} → Before j b i a → Before j b i (a + 1)
 before-on (inl h) = inl h
 before-on (inr h) = inr (h .0, omega arith)
 
 -- one stream more
-abbrev _▹▹_ : List (List ℕ) → List ℕ → List (List ℕ)
-_▹▹_ ws v = ws ++ (v ∷ [])
+abbrev grown : List (List ℕ) → List ℕ → List (List ℕ)
+grown ws v = ws ++ (v ∷ [])
 
-length-more : (ws : List (List ℕ)) (v : List ℕ) → length (_▹▹_ ws v) ≡ suc (length ws)
+length-more : (ws : List (List ℕ)) (v : List ℕ) → length (grown ws v) ≡ suc (length ws)
 length-more ws v = simp length-append (omega arith)
 
-old : (ws : List (List ℕ)) (v : List ℕ) {p : ℕ} → p < length ws → getD (_▹▹_ ws v) p [] ≡ getD ws p []
+old : (ws : List (List ℕ)) (v : List ℕ) {p : ℕ} → p < length ws → getD (grown ws v) p [] ≡ getD ws p []
 old ws v {p} h = List·getD-append ws (v ∷ []) [] p h
 
-new : (ws : List (List ℕ)) (v : List ℕ) → getD (_▹▹_ ws v) (length ws) [] ≡ v
+new : (ws : List (List ℕ)) (v : List ℕ) → getD (grown ws v) (length ws) [] ≡ v
 new ws v = getD-append-seam ws v [] []
 
 module _ {S O : Type 0} (m : Machine S O) where
@@ -87,16 +84,16 @@ module _ {S O : Type 0} (m : Machine S O) where
         rising = x .rising;
         accepted = x .accepted;
         apart = x .apart;
-        found = λ p l q. let from = x .found p l q in (from .0, from .1, inl (under (from .2)), from .3);
+        found = λ p l q. let from = x .found p l q in (from .0, from .1, inl (row-or-below (from .2)), from .3);
         met = λ j b l q. x .met j b (back l q) q;
       }
     where
-      under : {j b : ℕ} → Before j b i (m .letters) → j < i + 1
-      under (inl l) = omega arith
-      under (inr l) = omega arith
+      row-or-below : {j b : ℕ} → Before j b i (m .letters) → j < i + 1
+      row-or-below (inl l) = omega arith
+      row-or-below (inr l) = omega arith
 
       back : {j b : ℕ} → Before j b (i + 1) 0 → b < m .letters → Before j b i (m .letters)
-      back {j} {b} (inl l) q = ⊎-elim inl (λ e. inr (e, q)) (last-or-below j i (omega arith))
+      back {j} {b} (inl l) q = ⊎-elim inl (λ e. inr (e, q)) (split-last j i (omega arith))
       back {j} {b} (inr l) q = absurd (omega arith)
 
   -- a letter that is refused, or leads to what has been found
@@ -118,7 +115,7 @@ module _ {S O : Type 0} (m : Machine S O) where
             (before-next l);
       }
 
-  met-more : (ws : List (List ℕ)) (v : List ℕ) (j b : ℕ) (y : Answer O ℕ) → j < length ws → Met m ws j b y → Met m (_▹▹_ ws v) j b y
+  met-more : (ws : List (List ℕ)) (v : List ℕ) (j b : ℕ) (y : Answer O ℕ) → j < length ws → Met m ws j b y → Met m (grown ws v) j b y
   met-more ws v j b refused h k = rw (old ws v h) k
   met-more ws v j b (taken o l) h k =
       (rw (old ws v h, old ws v (k .1)) (k .0), omega (arith, length-more ws v, k .1), rw (old ws v h, old ws v (k .1)) (k .2))
@@ -148,37 +145,37 @@ module _ {S O : Type 0} (m : Machine S O) where
       v : List ℕ
       v = getD ws i [] ▹ a
 
-      split : (p : ℕ) → p < length (_▹▹_ ws v) → (p < length ws) ⊎ (p ≡ length ws)
-      split p r = last-or-below p (length ws) (omega (arith, length-more ws v))
+      split : (p : ℕ) → p < length (grown ws v) → (p < length ws) ⊎ (p ≡ length ws)
+      split p r = split-last p (length ws) (omega (arith, length-more ws v))
 
-      leads : arrival m (_▹▹_ ws v) (length ws) ≡ t
+      leads : arrival m (grown ws v) (length ws) ≡ t
       leads = ap (reached m) (new ws v) ∙ ends-on m (m .fresh) (getD ws i []) (x .accepted i h) e
 
-      up : (p q : ℕ) → p < q → (q < length ws) ⊎ (q ≡ length ws) → getD (_▹▹_ ws v) p [] ≺ getD (_▹▹_ ws v) q []
+      up : (p q : ℕ) → p < q → (q < length ws) ⊎ (q ≡ length ws) → getD (grown ws v) p [] ≺ getD (grown ws v) q []
       up p q l (inl r) = rw (old ws v r, old ws v {p = p} (omega arith)) (x .rising p q l r)
       up p q l (inr r) = rw (r, new ws v, old ws v {p = p} (omega arith)) (ahead x h p (omega arith))
 
-      good : (p : ℕ) → (p < length ws) ⊎ (p ≡ length ws) → Accepted m (getD (_▹▹_ ws v) p [])
+      good : (p : ℕ) → (p < length ws) ⊎ (p ≡ length ws) → Accepted m (getD (grown ws v) p [])
       good p (inl r) = rw (old ws v r) (x .accepted p r)
       good p (inr r) = rw (r, new ws v) (accepted-on m (m .fresh) (getD ws i []) (x .accepted i h) e)
 
-      off : (p q : ℕ) → p < q → (q < length ws) ⊎ (q ≡ length ws) → arrival m (_▹▹_ ws v) p ≡ arrival m (_▹▹_ ws v) q → ⊥
+      off : (p q : ℕ) → p < q → (q < length ws) ⊎ (q ≡ length ws) → arrival m (grown ws v) p ≡ arrival m (grown ws v) q → ⊥
       off p q l (inl r) k = x .apart p q l r (rw (old ws v r, old ws v {p = p} (omega arith)) at k)
       off p q l (inr r) k =
           let z : p < length ws = omega arith in
-          unseen p z (sym (ap (reached m) (old ws v z)) ∙ k ∙ ap (arrival m (_▹▹_ ws v)) r ∙ leads)
+          unseen p z (sym (ap (reached m) (old ws v z)) ∙ k ∙ ap (arrival m (grown ws v)) r ∙ leads)
 
       from : (p : ℕ) → 0 < p → (p < length ws) ⊎ (p ≡ length ws)
-          → (j : ℕ) × (b : ℕ) × Before j b i (a + 1) × (getD (_▹▹_ ws v) p [] ≡ getD (_▹▹_ ws v) j [] ▹ b)
+          → (j : ℕ) × (b : ℕ) × Before j b i (a + 1) × (getD (grown ws v) p [] ≡ getD (grown ws v) j [] ▹ b)
       from p l (inl r) =
           let f = x .found p l r in
           (f .0, f .1, before-on (f .2), rw (old ws v r, old ws v {p = f .0} (before-here h (f .2))) (f .3))
       from p l (inr r) = (i, a, inr (refl, omega arith), rw (r, new ws v, old ws v h))
 
-      past : (j b : ℕ) → Before j b i a → b < m .letters → Met m (_▹▹_ ws v) j b (next j b)
+      past : (j b : ℕ) → Before j b i a → b < m .letters → Met m (grown ws v) j b (next j b)
       past j b k r = rw (kept j b k r) (met-more ws v j b (row j b) (before-here h k) (x .met j b k r))
 
-      now : (j b : ℕ) → (j ≡ i) × (b ≡ a) → Met m (_▹▹_ ws v) j b (next j b)
+      now : (j b : ℕ) → (j ≡ i) × (b ≡ a) → Met m (grown ws v) j b (next j b)
       now j b k =
           rw (k .0, k .1, there) (
             ap (λ (u : List ℕ). m .step (reached m u) a) (old ws v h) ∙ e ∙ ap (taken o) (sym leads),
@@ -232,16 +229,13 @@ module _ {S O : Type 0} (m : Machine S O) where
         rows = λ i a h q. met-entry ws i a (row i a) (x .met i a (inl h) q);
       }
 
-  -- streams that have been found are so many situations
-  pub explore-many : {ws : List (List ℕ)} {row : ℕ → ℕ → Answer O ℕ} {i a : ℕ} → Exploring m ws row i a → (n : ℕ) → n < length ws → More m _≡_ n
-  explore-many {ws} x n h = record { streams = ws; many = h; accepted = x .accepted; apart = x .apart }
-
-  -- and one stream more where a letter leads to what has not been found
+  -- the streams found, and one more where a letter leads to what has not been found
   pub explore-beyond : {ws : List (List ℕ)} {row : ℕ → ℕ → Answer O ℕ} {i a : ℕ} → Exploring m ws row i a → i < length ws
       → (o : O) (t : S) → m .step (arrival m ws i) a ≡ taken o t → ((p : ℕ) → p < length ws → arrival m ws p ≡ t → ⊥)
       → (n : ℕ) → n ≡ length ws → More m _≡_ n
   explore-beyond {ws} {row} {i} {a} x h o t e unseen n size =
-      explore-many (explore-new x h next kept o t e unseen last) n (omega (arith, length-more ws (getD ws i [] ▹ a)))
+      let y = explore-new x h next kept o t e unseen last in
+      record { streams = grown ws (getD ws i [] ▹ a); many = omega (arith, length-more ws (getD ws i [] ▹ a)); accepted = y .accepted; apart = y .apart }
     where
       choose : {j b : ℕ} → Dec (j ≡ i) → Dec (b ≡ a) → Answer O ℕ
       choose {j} {b} (no d) f = row j b

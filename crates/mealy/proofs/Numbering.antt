@@ -1,14 +1,11 @@
 -- Numbering in order of first occurrence, one thing at a time. Assumes nothing.
 use Prim.Native.Nat.{ℕ, _+_, _<_}
 use mathlib.Core.Path.{_≡_, _∙_, ap}
-use mathlib.Core.Logic.{_⊎_, inl, inr, ⊎-elim}
+use mathlib.Core.Logic.{_⊎_, ⊎-elim}
 use native.Mathlib.Omega.{arith}
 use native.Mathlib.Decide.{decLt}
 use Rattle.mealy.specs.Classes.{Numbering}
-use Rattle.mealy.proofs.Unique.{order}
-
-pub split-last : (p n : ℕ) → p < n + 1 → (p < n) ⊎ (p ≡ n)
-split-last p n h = ⊎-elim inl (⊎-elim inr (λ l. absurd (omega arith))) (order p n)
+use Rattle.mealy.proofs.Numbers.{split-last}
 
 pub numbering-none : (class : ℕ → ℕ) → Numbering 0 class 0
 numbering-none class = record { below = λ i h. absurd (omega arith); firsts = λ q. q; first = λ q h. absurd (omega arith) }

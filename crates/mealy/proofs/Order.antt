@@ -1,7 +1,7 @@
 -- The order of streams: it is an order, and one letter more at the end of two streams keeps it. Assumes nothing.
 use Prim.Native.Nat.{ℕ, suc, _<_}
 use mathlib.Core.Path.{_≡_, refl, sym, ap}
-use mathlib.Core.Logic.{_⊎_, inl, inr, ⊎-elim}
+use mathlib.Core.Logic.{inl, inr}
 use mathlib.Core.List.{List, [], _∷_}
 use native.Mathlib.Omega.{arith}
 use lib.ListN.{length, length-append}
@@ -56,15 +56,6 @@ earlier-last : (v : List ℕ) (a b : ℕ) → a < b → Earlier (v ▹ a) (v ▹
 earlier-last [] a b h = inl h
 earlier-last (c ∷ v) a b h = inr (refl, earlier-last v a b h)
 
-earlier-back : (v w : List ℕ) (a b : ℕ) → length v ≡ length w → Earlier (v ▹ a) (w ▹ b) → Earlier v w ⊎ ((v ≡ w) × (a < b))
-earlier-back [] [] a b e (inl h) = inr (refl, h)
-earlier-back [] [] a b e (inr h) = absurd (h .1)
-earlier-back [] (d ∷ w) a b e h = absurd (omega arith)
-earlier-back (c ∷ v) [] a b e h = absurd (omega arith)
-earlier-back (c ∷ v) (d ∷ w) a b e (inl h) = inl (inl h)
-earlier-back (c ∷ v) (d ∷ w) a b e (inr h) =
-    ⊎-elim (λ k. inl (inr (h .0, k))) (λ k. inr (cc (h .0, k .0), k .1)) (earlier-back v w a b (omega arith) (h .1))
-
 length-on : (v : List ℕ) (a : ℕ) → length (v ▹ a) ≡ suc (length v)
 length-on v a = simp length-append (omega arith)
 
@@ -80,12 +71,6 @@ below-last v {a} {b} h = earlier (omega (arith, length-on v a, length-on v b)) (
 pub at-most-on : {v w : List ℕ} (a : ℕ) → v ≼ w → v ▹ a ≼ w ▹ a
 at-most-on a (inl e) = inl (ap (λ (v : List ℕ). v ▹ a) e)
 at-most-on a (inr h) = inr (below-on a a h)
-
-pub below-back : (v w : List ℕ) (a b : ℕ) → v ▹ a ≺ w ▹ b → (v ≺ w) ⊎ ((v ≡ w) × (a < b))
-below-back v w a b (shorter h) = inl (shorter (omega (arith, length-on v a, length-on w b)))
-below-back v w a b (earlier e h) =
-    let d : length v ≡ length w = omega (arith, length-on v a, length-on w b) in
-    ⊎-elim (λ k. inl (earlier d k)) inr (earlier-back v w a b d h)
 
 -- the empty stream arrives before every other
 pub nil-below : (v : List ℕ) (a : ℕ) → [] ≺ v ▹ a

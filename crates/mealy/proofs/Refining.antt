@@ -2,15 +2,15 @@
 -- leaves their number as it was, it leaves the classes as they were, and one class is one state. Assumes nothing.
 use Prim.Native.Nat.{ℕ, zero, suc, _+_, _-_, _≤_, _<_, zero-le}
 use mathlib.Core.Path.{_≡_, refl, sym, _∙_, ap}
-use mathlib.Core.Logic.{_⊎_, inl, inr, ⊎-elim}
+use mathlib.Core.Logic.{_⊎_, ⊎-elim}
 use mathlib.Core.List.{List, [], _∷_}
 use native.Mathlib.Omega.{arith}
 use native.Mathlib.Nat.{add-zero, zero-add}
 use native.Mathlib.Decide.{decLt}
-use Rattle.mealy.specs.Runs.{Answer, refused, taken, Machine, told}
+use Rattle.mealy.specs.Runs.{Answer, refused, taken, Machine, gets}
 use Rattle.mealy.specs.Classes.{Numbering, classed, Closed, Coarse, Stable, Split, Round, States}
 use Rattle.mealy.proofs.Runs.{untaken, same-refused, same-taken}
-use Rattle.mealy.proofs.Unique.{order}
+use Rattle.mealy.proofs.Numbers.{order, split-last}
 
 -- classes occur first in the order of their numbers
 pub firsts-rise : {k : ℕ} {class : ℕ → ℕ} {n : ℕ} (x : Numbering k class n) (p q : ℕ) → p < q → q < n → x .firsts p < x .firsts q
@@ -40,7 +40,7 @@ module _ {k : ℕ} {class finer : ℕ → ℕ} {n o : ℕ} (x : Numbering k clas
   at-spreads : (p d : ℕ) → p + d < n → at p + d ≤ at (p + d)
   at-spreads p zero h = simp add-zero (omega arith)
   at-spreads p (suc d) h =
-      let before : at p + d ≤ at (p + d) = at-spreads p d (omega arith) in
+      let prior : at p + d ≤ at (p + d) = at-spreads p d (omega arith) in
       let next : at (p + d) < at (p + suc d) = at-rises (p + d) (p + suc d) (omega arith) h in
       omega arith
 
@@ -100,7 +100,7 @@ module _ {O : Type 0} {m : Machine ℕ O} {k : ℕ} (closed : Closed m k) where
         numbering = y;
         coarse = split-coarse k a (omega arith) (x .coarse) split;
         grown = omega (arith, x .grown, more);
-        stable = λ e b l. ⊎-elim (λ (r : b < a). stable-alike b (alike e) (x .stable (omega (arith, x .grown, more)) b r)) (λ r. here e b r) (split-last b l);
+        stable = λ e b l. ⊎-elim (λ (r : b < a). stable-alike b (alike e) (x .stable (omega (arith, x .grown, more)) b r)) (λ r. here e b r) (split-last b a l);
       }
     where
       fine : (i j : ℕ) → i < k → j < k → finer i ≡ finer j → class i ≡ class j
@@ -112,9 +112,6 @@ module _ {O : Type 0} {m : Machine ℕ O} {k : ℕ} (closed : Closed m k) where
       alike : o ≡ began → (i : ℕ) → i < k → finer i ≡ class i
       alike e = finer-same (x .numbering) y fine (omega (arith, x .grown, more))
 
-      split-last : (b : ℕ) → b < a + 1 → (b < a) ⊎ (b ≡ a)
-      split-last b l = ⊎-elim inl (⊎-elim inr (λ r. absurd (omega arith))) (order b a)
-
       here : o ≡ began → (b : ℕ) → b ≡ a → Stable m k finer b
       here e b r i j h l f =
           rw r
@@ -122,7 +119,7 @@ module _ {O : Type 0} {m : Machine ℕ O} {k : ℕ} (closed : Closed m k) where
 
   -- classes that no letter parts are same states
   stable-same : {class : ℕ → ℕ} → ((a : ℕ) → a < m .letters → Stable m k class a) → (w : List ℕ) (i j : ℕ) → i < k → j < k → class i ≡ class j
-      → told m i w ≡ told m j w
+      → gets m i w ≡ gets m j w
   stable-same stable [] i j h l e = refl
   stable-same {class} stable (a ∷ w) i j h l e =
       elim (decLt a (m .letters)) [
@@ -130,9 +127,9 @@ module _ {O : Type 0} {m : Machine ℕ O} {k : ℕ} (closed : Closed m k) where
         | no q ↦ rw (m .outside i a (omega arith), m .outside j a (omega arith))
       ]
     where
-      look : ((u v : ℕ) → u < k → v < k → class u ≡ class v → told m u w ≡ told m v w)
+      look : ((u v : ℕ) → u < k → v < k → class u ≡ class v → gets m u w ≡ gets m v w)
           → (y : Answer O ℕ) → m .step i a ≡ y → (z : Answer O ℕ) → m .step j a ≡ z → classed class (m .step i a) ≡ classed class (m .step j a)
-          → told m i (a ∷ w) ≡ told m j (a ∷ w)
+          → gets m i (a ∷ w) ≡ gets m j (a ∷ w)
       look ih refused d refused f g = rw (d, f)
       look ih refused d (taken p v) f g = absurd (untaken (rw (d, f) at g))
       look ih (taken o u) d refused f g = absurd (untaken (sym (rw (d, f) at g)))

@@ -4,39 +4,18 @@ use mathlib.Core.Path.{_≡_, refl, sym, _∙_, ap}
 use mathlib.Core.List.{List, [], _∷_, _++_}
 use native.Mathlib.Omega.{arith}
 use lib.Dec.{T}
-use Rattle.mealy.specs.Runs.{Answer, refused, taken, Machine, Told, refusal, output, after, tell, told, go, ends, heard, AcceptedFrom, Same}
+use Rattle.mealy.specs.Runs.{Answer, refused, taken, Machine, Got, refusal, output, preceded, getting, gets, go, ends, isOutput, AcceptedFrom, Same}
 use Rattle.mealy.specs.Order.{_▹_}
 
-abbrev pub afterAll : {O : Type 0} → List O → Told O → Told O
-afterAll [] x = x
-afterAll (o ∷ os) x = after o (afterAll os x)
+isOutput-preceded : {O : Type 0} (o : O) (x : Got O) → isOutput (preceded o x) ≡ isOutput x
+isOutput-preceded o (refusal k) = refl
+isOutput-preceded o (output os) = refl
 
--- what a stream gets whose beginning gets x, and whose rest, from where that leads, gets y
-abbrev pub followed : {O : Type 0} → Told O → Told O → Told O
-followed (refusal k) y = refusal k
-followed (output os) y = afterAll os y
-
-after-followed : {O : Type 0} (o : O) (x y : Told O) → after o (followed x y) ≡ followed (after o x) y
-after-followed o (refusal k) y = refl
-after-followed o (output os) y = refl
-
-heard-after : {O : Type 0} (o : O) (x : Told O) → heard (after o x) ≡ heard x
-heard-after o (refusal k) = refl
-heard-after o (output os) = refl
-
-after-rest : {O : Type 0} (o p : O) (x y : Told O) → after o x ≡ after p y → x ≡ y
-after-rest o p (refusal k) (refusal l) e = ap refusal (cc)
-after-rest o p (refusal k) (output l) e = cc
-after-rest o p (output k) (refusal l) e = cc
-after-rest o p (output k) (output l) e = cc
-
-afterAll-rest : {O : Type 0} (os : List O) (x y : Told O) → afterAll os x ≡ afterAll os y → x ≡ y
-afterAll-rest [] x y e = e
-afterAll-rest (o ∷ os) x y e = afterAll-rest os x y (after-rest o o (afterAll os x) (afterAll os y) e)
-
-pub followed-rest : {O : Type 0} (z : Told O) {x y : Told O} → T (heard z) → followed z x ≡ followed z y → x ≡ y
-followed-rest (refusal k) h e = absurd h
-followed-rest (output os) {x} {y} h e = afterAll-rest os x y e
+preceded-rest : {O : Type 0} (o p : O) (x y : Got O) → preceded o x ≡ preceded p y → x ≡ y
+preceded-rest o p (refusal k) (refusal l) e = ap refusal (cc)
+preceded-rest o p (refusal k) (output l) e = cc
+preceded-rest o p (output k) (refusal l) e = cc
+preceded-rest o p (output k) (output l) e = cc
 
 pub untaken : {O S : Type 0} {o : O} {t : S} → _≡_ {A = Answer O S} refused (taken o t) → ⊥
 untaken e = let z : _≡_ {A = ℕ} 0 1 = cc in omega arith
@@ -57,34 +36,24 @@ module _ {S O : Type 0} (m : Machine S O) where
   pub same-eq : {s t : S} → s ≡ t → Same m s t
   same-eq {s} {t} e = rw e (same-refl t)
 
-  -- the run of a longer stream: what its beginning gets, and then what the rest gets from where the beginning leads
-  pub told-append : (s : S) (v w : List ℕ) → told m s (v ++ w) ≡ followed (told m s v) (told m (ends m s v) w)
-  told-append s [] w = refl
-  told-append s (a ∷ v) w = step (λ t. told-append t v w) (m .step s a)
-    where
-      step : ((t : S) → told m t (v ++ w) ≡ followed (told m t v) (told m (ends m t v) w)) → (x : Answer O S)
-          → tell x (λ t. told m t (v ++ w)) ≡ followed (tell x (λ t. told m t v)) (told m (go x s (λ t. ends m t v)) w)
-      step ih refused = refl
-      step ih (taken o t) = rw (ih t) (after-followed o (told m t v) (told m (ends m t v) w))
-
-  -- of an accepted beginning
-  pub accepted-append : (s : S) (v w : List ℕ) → AcceptedFrom m s v → heard (told m s (v ++ w)) ≡ heard (told m (ends m s v) w)
+  -- what follows an accepted beginning is the run from where the beginning leads
+  pub accepted-append : (s : S) (v w : List ℕ) → AcceptedFrom m s v → isOutput (gets m s (v ++ w)) ≡ isOutput (gets m (ends m s v) w)
   accepted-append s [] w h = refl
   accepted-append s (a ∷ v) w h = step (λ t. accepted-append t v w) (m .step s a) h
     where
-      step : ((t : S) → AcceptedFrom m t v → heard (told m t (v ++ w)) ≡ heard (told m (ends m t v) w)) → (x : Answer O S)
-          → T (heard (tell x (λ t. told m t v))) → heard (tell x (λ t. told m t (v ++ w))) ≡ heard (told m (go x s (λ t. ends m t v)) w)
+      step : ((t : S) → AcceptedFrom m t v → isOutput (gets m t (v ++ w)) ≡ isOutput (gets m (ends m t v) w)) → (x : Answer O S)
+          → T (isOutput (getting x (λ t. gets m t v))) → isOutput (getting x (λ t. gets m t (v ++ w))) ≡ isOutput (gets m (go x s (λ t. ends m t v)) w)
       step ih refused h = absurd h
-      step ih (taken o t) h = heard-after o (told m t (v ++ w)) ∙ ih t (rw heard-after at h)
+      step ih (taken o t) h = isOutput-preceded o (gets m t (v ++ w)) ∙ ih t (rw isOutput-preceded at h)
 
   pub ends-append : (s : S) (v w : List ℕ) → AcceptedFrom m s v → ends m s (v ++ w) ≡ ends m (ends m s v) w
   ends-append s [] w h = refl
   ends-append s (a ∷ v) w h = step (λ t. ends-append t v w) (m .step s a) h
     where
       step : ((t : S) → AcceptedFrom m t v → ends m t (v ++ w) ≡ ends m (ends m t v) w) → (x : Answer O S)
-          → T (heard (tell x (λ t. told m t v))) → go x s (λ t. ends m t (v ++ w)) ≡ ends m (go x s (λ t. ends m t v)) w
+          → T (isOutput (getting x (λ t. gets m t v))) → go x s (λ t. ends m t (v ++ w)) ≡ ends m (go x s (λ t. ends m t v)) w
       step ih refused h = absurd h
-      step ih (taken o t) h = ih t (rw heard-after at h)
+      step ih (taken o t) h = ih t (rw isOutput-preceded at h)
 
   -- one letter more
   pub accepted-on : (s : S) (v : List ℕ) {a : ℕ} {o : O} {t : S} → AcceptedFrom m s v → m .step (ends m s v) a ≡ taken o t → AcceptedFrom m s (v ▹ a)
@@ -98,10 +67,10 @@ module _ {S O : Type 0} (m : Machine S O) where
       → (o : O) × (t : S) × (m .step s a ≡ taken o t) × AcceptedFrom m t w
   first-taken s a w h = look (m .step s a) refl h
     where
-      look : (x : Answer O S) → m .step s a ≡ x → T (heard (tell x (λ t. told m t w)))
+      look : (x : Answer O S) → m .step s a ≡ x → T (isOutput (getting x (λ t. gets m t w)))
           → (o : O) × (t : S) × (m .step s a ≡ taken o t) × AcceptedFrom m t w
       look refused e h = absurd h
-      look (taken o t) e h = (o, t, e, rw heard-after at h)
+      look (taken o t) e h = (o, t, e, rw isOutput-preceded at h)
 
   -- the same state gives the same answer, and leads to the same state
   pub same-refused : {s t : S} (a : ℕ) → Same m s t → m .step s a ≡ refused → m .step t a ≡ refused
@@ -119,4 +88,4 @@ module _ {S O : Type 0} (m : Machine S O) where
       look refused d = absurd (never (rw (e, d) at (h .same (a ∷ []))))
       look (taken p v) d =
           let one : output (o ∷ []) ≡ output (p ∷ []) = rw (e, d) at (h .same (a ∷ [])) in
-          (v, cc, record { same = λ w. after-rest o p (told m u w) (told m v w) (rw (e, d) at (h .same (a ∷ w))) })
+          (v, cc, record { same = λ w. preceded-rest o p (gets m u w) (gets m v w) (rw (e, d) at (h .same (a ∷ w))) })

@@ -7,13 +7,13 @@ use mathlib.Core.List.{List, [], _∷_, _++_}
 use native.Mathlib.Omega.{arith}
 use lib.ListN.{length, getD, length-append, List·getD-append}
 use lib.Seq.{getD-at}
-use Rattle.mealy.specs.Runs.{Answer, refused, taken, Machine, told, Same}
+use Rattle.mealy.specs.Runs.{Answer, refused, taken, Machine, gets, Same}
 use Rattle.mealy.specs.Order.{_≼_}
 use Rattle.mealy.specs.Arrivals.{arrival, Apart, AllAccepted, More, Entry, Described, numbered}
 use Rattle.mealy.specs.Classes.{Numbering, classed, Closed, Coarse, States}
 use Rattle.mealy.proofs.Order.{at-most-trans}
 use Rattle.mealy.proofs.Runs.{untaken, same-eq, same-trans}
-use Rattle.mealy.proofs.Unique.{order}
+use Rattle.mealy.proofs.Numbers.{order}
 use Rattle.mealy.proofs.Describing.{Stepped, neither, both, stepped, run-from}
 use Rattle.mealy.proofs.Refining.{firsts-rise}
 
@@ -48,7 +48,7 @@ module _ {S O : Type 0} (m : Machine S O) {k : ℕ} {row : ℕ → ℕ → Answe
           let to : j ≡ l = cc in
           omega arith
 
-  run : (i : ℕ) → i < k → (w : List ℕ) → told (numbered (m .letters) row) i w ≡ told m (arrival m (d .streams) i) w
+  run : (i : ℕ) → i < k → (w : List ℕ) → gets (numbered (m .letters) row) i w ≡ gets m (arrival m (d .streams) i) w
   run = run-from m _≡_ d (λ s t e. same-eq m e)
 
   same-up : (i j : ℕ) → i < k → j < k → Same (numbered (m .letters) row) i j → Same m (arrival m (d .streams) i) (arrival m (d .streams) j)

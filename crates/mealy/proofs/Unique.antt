@@ -1,31 +1,30 @@
 -- The first arrivals are determined, and so are their rows and their number; more than n and at most n exclude each other. Assumes nothing.
 use Prim.Native.Nat.{ℕ, zero, suc, _≤_, _<_, zero-le}
 use mathlib.Core.Path.{_≡_, refl, sym, _∙_, ap}
-use mathlib.Core.Logic.{_⊎_, inl, inr, ⊎-elim}
+use mathlib.Core.Logic.{_⊎_, ⊎-elim}
 use mathlib.Core.List.{List, []}
 use native.Mathlib.Omega.{arith}
-use native.Mathlib.Decide.{decLt}
 use lib.ListN.{length, getD}
 use lib.Seq.{ext-getD}
-use Rattle.mealy.specs.Runs.{Answer, refused, taken, Machine}
+use Rattle.mealy.specs.Runs.{Answer, refused, taken, Machine, Same}
 use Rattle.mealy.specs.Order.{_≺_}
 use Rattle.mealy.specs.Arrivals.{arrival, Apart, Known, Arrivals, More, AtMost, Exactly, Entry, Described}
 use Rattle.mealy.proofs.Order.{below-irrefl, below-trans, at-most-antisym}
+use Rattle.mealy.proofs.Numbers.{order, first-without}
+use Rattle.mealy.proofs.Runs.{same-sym, same-trans}
 use Rattle.mealy.proofs.Pigeonhole.{pigeonhole}
-
--- of two numbers
-pub order : (i j : ℕ) → (i < j) ⊎ ((i ≡ j) ⊎ (j < i))
-order i j = elim (decLt i j) [ yes p ↦ inl p | no p ↦ elim (decLt j i) [ yes q ↦ inr (inr q) | no q ↦ inr (inl (omega arith)) ] ]
-
--- of two numbers, each the first that has not the property, neither is below the other
-pub first-without : (P : ℕ → Type 0) {k n : ℕ} → ((i : ℕ) → i < k → P i) → (P k → ⊥) → ((i : ℕ) → i < n → P i) → (P n → ⊥) → k ≡ n
-first-without P {k} {n} below here below′ here′ =
-    ⊎-elim (λ l. absurd (here (below′ k l))) (⊎-elim (λ e. e) (λ l. absurd (here′ (below n l)))) (order k n)
 
 -- what is asked of the relation
 pub record Alike {S : Type 0} (R : S → S → Type 0) : Type 0 where
   pub back : (s t : S) → R s t → R t s
   pub on : (s t u : S) → R s t → R t u → R s u
+
+-- equality, and being the same state
+pub equal : {S : Type 0} → Alike (_≡_ {A = S})
+equal = record { back = λ s t e. sym e; on = λ s t u e f. e ∙ f }
+
+pub same-states : {S O : Type 0} (m : Machine S O) → Alike (Same m)
+same-states m = record { back = λ s t h. same-sym m h; on = λ s t u h k. same-trans m h k }
 
 module _ {S O : Type 0} (m : Machine S O) (R : S → S → Type 0) (eq : Alike R) where
   -- of streams that lead apart, two that lead to related situations have one number
@@ -46,6 +45,10 @@ module _ {S O : Type 0} (m : Machine S O) (R : S → S → Type 0) (eq : Alike R
   pub arrivals-at-most : {ws : List (List ℕ)} → Arrivals m R ws → (n : ℕ) → length ws ≤ n → AtMost m R n
   arrivals-at-most {ws} a n h =
       record { streams = ws; few = h; covers = λ w g. let to = a .covers w g in (to .0, to .1, to .2) }
+
+  -- so many described, at most so many classes
+  pub described-at-most : {k : ℕ} {row : ℕ → ℕ → Answer O ℕ} → Described m R k row → (n : ℕ) → k ≤ n → AtMost m R n
+  described-at-most d n h = arrivals-at-most (d .first) n (omega (arith, d .count))
 
   -- and exactly as many as they are
   pub arrivals-exactly : {ws : List (List ℕ)} → Arrivals m R ws → (n : ℕ) → length ws ≡ n → Exactly m R n
@@ -73,13 +76,13 @@ module _ {S O : Type 0} (m : Machine S O) (R : S → S → Type 0) (eq : Alike R
         let one : back .0 ≡ i = apart-one vs (a .apart) (back .0) i (back .1) p (eq .on _ _ _ (back .2) (there .2)) in
         (there .0, there .1, at-most-antisym _ _ (rw one at (back .3)) (there .3))
 
-    behind : (i j : ℕ) → i < length vs → j < length ws → getD vs i [] ≡ getD ws j [] → i ≤ j
-    behind zero j p q e = zero-le
-    behind (suc i) j p q e =
-        let before = member i (omega arith) in
-        let le : i ≤ before .0 = behind i (before .0) (omega arith) (before .1) (before .2) in
-        let lt : before .0 < j
-        = rising-back b (before .0) j (before .1) q (rw (e, before .2) at (a .rising i (suc i) (omega arith) p)) in
+    no-later : (i j : ℕ) → i < length vs → j < length ws → getD vs i [] ≡ getD ws j [] → i ≤ j
+    no-later zero j p q e = zero-le
+    no-later (suc i) j p q e =
+        let prior = member i (omega arith) in
+        let le : i ≤ prior .0 = no-later i (prior .0) (omega arith) (prior .1) (prior .2) in
+        let lt : prior .0 < j
+        = rising-back b (prior .0) j (prior .1) q (rw (e, prior .2) at (a .rising i (suc i) (omega arith) p)) in
         omega arith
 
     longer : length vs ≤ length ws
@@ -89,7 +92,7 @@ module _ {S O : Type 0} (m : Machine S O) (R : S → S → Type 0) (eq : Alike R
         look zero e = zero-le
         look (suc n) e =
             let there = member n (omega arith) in
-            let le : n ≤ there .0 = behind n (there .0) (omega arith) (there .1) (there .2) in
+            let le : n ≤ there .0 = no-later n (there .0) (omega arith) (there .1) (there .2) in
             omega (arith, there .1)
 
   -- two lists of first arrivals are one
@@ -98,8 +101,8 @@ module _ {S O : Type 0} (m : Machine S O) (R : S → S → Type 0) (eq : Alike R
       ext-getD [] vs ws (omega (arith, longer a b, longer b a))
       (λ i p.
       let there = member a b i p in
-      let le : i ≤ there .0 = behind a b i (there .0) p (there .1) (there .2) in
-      let ge : there .0 ≤ i = behind b a (there .0) i (there .1) p (sym (there .2)) in
+      let le : i ≤ there .0 = no-later a b i (there .0) p (there .1) (there .2) in
+      let ge : there .0 ≤ i = no-later b a (there .0) i (there .1) p (sym (there .2)) in
       let one : there .0 ≡ i = omega arith in
       rw one at (there .2))
 

@@ -20,23 +20,23 @@ pub record Machine (S O : Type 0) : Type 0 where
   pub fresh : S
 
 -- what a stream gets: a refusal at a place, counted from its start, or the outputs of its letters in order
-pub data Told (O : Type 0) : Type 0 where
-  refusal : ℕ → Told O
-  output : List O → Told O
+pub data Got (O : Type 0) : Type 0 where
+  refusal : ℕ → Got O
+  output : List O → Got O
 
 -- what a stream gets whose first letter gets the output o, and whose rest gets what is given
-abbrev pub after : {O : Type 0} → O → Told O → Told O
-after o (refusal k) = refusal (suc k)
-after o (output os) = output (o ∷ os)
+abbrev pub preceded : {O : Type 0} → O → Got O → Got O
+preceded o (refusal k) = refusal (suc k)
+preceded o (output os) = output (o ∷ os)
 
-abbrev pub tell : {S O : Type 0} → Answer O S → (S → Told O) → Told O
-tell refused rest = refusal 0
-tell (taken o t) rest = after o (rest t)
+abbrev pub getting : {S O : Type 0} → Answer O S → (S → Got O) → Got O
+getting refused rest = refusal 0
+getting (taken o t) rest = preceded o (rest t)
 
 -- the run of a stream from a situation
-abbrev pub told : {S O : Type 0} → Machine S O → S → List ℕ → Told O
-told m s [] = output []
-told m s (a ∷ w) = tell (m .step s a) (λ t. told m t w)
+abbrev pub gets : {S O : Type 0} → Machine S O → S → List ℕ → Got O
+gets m s [] = output []
+gets m s (a ∷ w) = getting (m .step s a) (λ t. gets m t w)
 
 abbrev pub go : {S O : Type 0} → Answer O S → S → (S → S) → S
 go refused s rest = s
@@ -47,13 +47,13 @@ abbrev pub ends : {S O : Type 0} → Machine S O → S → List ℕ → S
 ends m s [] = s
 ends m s (a ∷ w) = go (m .step s a) s (λ t. ends m t w)
 
-abbrev pub heard : {O : Type 0} → Told O → Bool
-heard (refusal k) = false
-heard (output os) = true
+abbrev pub isOutput : {O : Type 0} → Got O → Bool
+isOutput (refusal k) = false
+isOutput (output os) = true
 
 -- a stream is accepted, from a situation, and from the fresh one
 abbrev pub AcceptedFrom : {S O : Type 0} → Machine S O → S → List ℕ → Type 0
-AcceptedFrom m s w = T (heard (told m s w))
+AcceptedFrom m s w = T (isOutput (gets m s w))
 
 abbrev pub Accepted : {S O : Type 0} → Machine S O → List ℕ → Type 0
 Accepted m w = AcceptedFrom m (m .fresh) w
@@ -64,4 +64,4 @@ reached m w = ends m (m .fresh) w
 
 -- two situations are the same state: every continuation gets the same outputs and the same refusals
 pub record Same {S O : Type 0} (m : Machine S O) (s t : S) : Type 0 where
-  pub same : (w : List ℕ) → told m s w ≡ told m t w
+  pub same : (w : List ℕ) → gets m s w ≡ gets m t w

@@ -1,18 +1,18 @@
 use Prim.Native.Nat.{_-_}
 use borrow.Author.Needs.{needs}
-use Rattle.machine.specs.Index.{capacity}
+use Rattle.machine.specs.inner.Index.{capacity}
 use Rattle.machine.specs.Shim.{shimOf}
-use Rattle.machine.specs.Explore.{Explored}
+use Rattle.machine.specs.inner.Explore.{Explored}
 use Rattle.machine.proofs.Breadth.{over, explored-next, explored-end}
 use Rattle.machine.proofs.explore.explore_all.Statement.{statement}
 use Rattle.machine.proofs.explore.explore_all.Tie as tie
 
 abbrev Inv-loop : tie.InvT-loop
-Inv-loop way up ups target fences pairs₀ links₀ table₀ count₀ i₀ pairs links table count i =
-    Explored (shimOf way up ups target fences) pairs links table count i 0
+Inv-loop shim ups fences pairs₀ links₀ table₀ count₀ i₀ pairs links table count i =
+    Explored (shimOf shim ups fences) pairs links table count i 0
 
 abbrev μ-loop : tie.MeasureT-loop
-μ-loop way up ups target fences pairs₀ links₀ table₀ count₀ i₀ pairs links table count i =
+μ-loop shim ups fences pairs₀ links₀ table₀ count₀ i₀ pairs links table count i =
     capacity - i
 
 loop-holds : tie.Need-loop-holds Inv-loop μ-loop
@@ -40,7 +40,9 @@ loop-less : tie.Need-loop-less Inv-loop μ-loop
 loop-less c = search needs
 
 loop-again : tie.Need-loop-again Inv-loop μ-loop
-loop-again c = explored-next (c .before .before .before .before .before .before .before .explore-row .ensures) (c .if1 .left)
+loop-again c =
+    let row = c .before .before .before .before .before .before .before .explore-row in
+    explored-next (row .ensures) (c .if1 .left)
 
 same-length-4 : tie.Need-same-length-4 Inv-loop μ-loop
 same-length-4 c = search needs

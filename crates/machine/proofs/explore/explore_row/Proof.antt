@@ -7,11 +7,11 @@ use Rattle.machine.proofs.explore.explore_row.Statement.{statement}
 use Rattle.machine.proofs.explore.explore_row.Tie as tie
 
 abbrev Inv-loop : tie.InvT-loop
-Inv-loop way up ups target fences pairs₀ links₀ table₀ began i count₀ a₀ pairs links table count a =
-    Rowing (shimOf way up ups target fences) began pairs links table count i a
+Inv-loop shim ups fences pairs₀ links₀ table₀ began i count₀ a₀ pairs links table count a =
+    Rowing (shimOf shim ups fences) began pairs links table count i a
 
 abbrev μ-loop : tie.MeasureT-loop
-μ-loop way up ups target fences pairs₀ links₀ table₀ began i count₀ a₀ pairs links table count a =
+μ-loop shim ups fences pairs₀ links₀ table₀ began i count₀ a₀ pairs links table count a =
     4 + length ups - a
 
 loop-holds : tie.Need-loop-holds Inv-loop μ-loop

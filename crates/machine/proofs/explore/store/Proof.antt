@@ -1,7 +1,7 @@
 use mathlib.Core.Path.{refl}
 use native.Mathlib.Omega.{arith}
 use borrow.Author.Needs.{needs}
-use Rattle.machine.specs.Explore.{stored, unstored}
+use Rattle.machine.specs.inner.Explore.{stored, unstored}
 use Rattle.machine.proofs.Naming.{placed-low}
 use Rattle.machine.proofs.explore.store.Statement.{statement}
 use Rattle.machine.proofs.explore.store.Tie as tie

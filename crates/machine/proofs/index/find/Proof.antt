@@ -1,6 +1,7 @@
 use mathlib.Core.Path.{refl}
 use native.Mathlib.Omega.{arith}
 use borrow.Author.Needs.{needs}
+use Rattle.machine.specs.inner.Index.{there, nowhere}
 use Rattle.machine.proofs.Links.{Seeking, seek-start, seek-next, seek-end, seek-less}
 use Rattle.machine.proofs.index.find.Statement.{statement}
 use Rattle.machine.proofs.index.find.Tie as tie
@@ -33,7 +34,7 @@ holds-requires : tie.Need-holds-requires Inv-loop μ-loop
 holds-requires c κs = search needs
 
 returns : tie.Need-returns Inv-loop μ-loop
-returns c = (omega arith, rw (c .if1 .taken) at (c .before .holds .ensures))
+returns c = there _ refl (omega arith) (rw (c .if1 .taken) at (c .before .holds .ensures))
 
 add-wide : tie.Need-add-wide Inv-loop μ-loop
 add-wide c = search needs
@@ -59,7 +60,7 @@ loop-again c =
     (c .wide2 .ensures)
 
 returns-2 : tie.Need-returns-2 Inv-loop μ-loop
-returns-2 c = seek-end (rw (c .loop-test .left) at (c .before .loop .inv))
+returns-2 c = nowhere refl (seek-end (rw (c .loop-test .left) at (c .before .loop .inv)))
 
 pub find-spec : {M : Type 1} → statement M
 find-spec =

@@ -17,11 +17,11 @@ shared-slice-read-wide-word c = search needs
 wide-word-requires : tie.Need-wide-word-requires
 wide-word-requires c κs = search needs
 
-shared-slice-read-wide-class : tie.Need-shared-slice-read-wide-class
-shared-slice-read-wide-class c = search needs
+shared-slice-read-wide : tie.Need-shared-slice-read-wide
+shared-slice-read-wide c = search needs
 
-wide-class-requires : tie.Need-wide-class-requires
-wide-class-requires c κs = search needs
+wide-requires : tie.Need-wide-requires
+wide-requires c κs = search needs
 
 shown-requires : tie.Need-shown-requires
 shown-requires c κs = search needs
@@ -33,7 +33,7 @@ add-result : tie.Need-add-result
 add-result c = search needs
 
 returns : tie.Need-returns
-returns c = cc (c .shown .ensures .0, c .before .wide-class .ensures .0)
+returns c = cc (c .shown .ensures .0, c .before .wide .ensures .0)
 
 pub key-of-spec : {M : Type 1} → statement M
 key-of-spec =
@@ -44,8 +44,8 @@ key-of-spec =
     mul-wide-word-2
     shared-slice-read-wide-word
     wide-word-requires
-    shared-slice-read-wide-class
-    wide-class-requires
+    shared-slice-read-wide
+    wide-requires
     shown-requires
     mul-result
     add-result

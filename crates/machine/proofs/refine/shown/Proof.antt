@@ -10,11 +10,11 @@ returns c = (simp (lt-ltb _ _ (c .if1 .taken)), omega arith)
 mul-result : tie.Need-mul-result
 mul-result c = search needs
 
-shared-slice-read-wide-class : tie.Need-shared-slice-read-wide-class
-shared-slice-read-wide-class c = search needs
+shared-slice-read-wide : tie.Need-shared-slice-read-wide
+shared-slice-read-wide c = search needs
 
-wide-class-requires : tie.Need-wide-class-requires
-wide-class-requires c κs = search needs
+wide-requires : tie.Need-wide-requires
+wide-requires c κs = search needs
 
 add-result : tie.Need-add-result
 add-result c = search needs
@@ -28,7 +28,7 @@ shown-spec =
     (tie.spec
     returns
     mul-result
-    shared-slice-read-wide-class
-    wide-class-requires
+    shared-slice-read-wide
+    wide-requires
     add-result
     returns-2)

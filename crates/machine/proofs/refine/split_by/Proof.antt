@@ -1,7 +1,7 @@
 use Prim.Native.Nat.{_-_}
 use native.Mathlib.Omega.{arith}
 use borrow.Author.Needs.{needs}
-use Rattle.machine.specs.Words.{key}
+use Rattle.machine.specs.inner.Words.{key}
 use Rattle.machine.proofs.Naming.{placed-low, Splitting, splitting-start, splitting-next, splitting-crowded, splitting-end}
 use Rattle.machine.proofs.refine.split_by.Statement.{statement}
 use Rattle.machine.proofs.refine.split_by.Tie as tie

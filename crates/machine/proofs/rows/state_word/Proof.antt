@@ -7,11 +7,11 @@ use Rattle.machine.proofs.rows.state_word.Tie as tie
 returns : tie.Need-returns
 returns c = simp (lt-ltb _ _ (c .if1 .taken))
 
-shared-slice-read-wide-class : tie.Need-shared-slice-read-wide-class
-shared-slice-read-wide-class c = search needs
+shared-slice-read-wide : tie.Need-shared-slice-read-wide
+shared-slice-read-wide c = search needs
 
-wide-class-requires : tie.Need-wide-class-requires
-wide-class-requires c κs = search needs
+wide-requires : tie.Need-wide-requires
+wide-requires c κs = search needs
 
 sub-result : tie.Need-sub-result
 sub-result c = search needs
@@ -33,8 +33,8 @@ state-word-spec =
     tie.close
     (tie.spec
     returns
-    shared-slice-read-wide-class
-    wide-class-requires
+    shared-slice-read-wide
+    wide-requires
     sub-result
     mul-result
     add-result

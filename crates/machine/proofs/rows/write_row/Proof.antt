@@ -2,7 +2,7 @@ use Prim.Native.Nat.{_-_, _≤_}
 use native.Mathlib.Omega.{arith}
 use borrow.Author.Needs.{needs}
 use Rattle.operations.specs.Alphabet.{stride}
-use Rattle.machine.specs.Rows.{stateEntry, RowWritten}
+use Rattle.machine.specs.inner.Writing.{stateEntry, RowWritten}
 use Rattle.machine.proofs.Entries.{row-start, row-next, row-end}
 use Rattle.machine.proofs.rows.write_row.Statement.{statement}
 use Rattle.machine.proofs.rows.write_row.Tie as tie

@@ -4,7 +4,7 @@ use mathlib.Core.Path.{_≡_}
 use mathlib.Core.Bool.{Bool, true, false}
 use mathlib.Core.List.{List}
 use lib.ListN.{length, getD}
-use Rattle.machine.specs.declared.index.Found.{Found}
+use Rattle.ground.specs.declared.Found.{Found}
 
 abbrev pub capacity : ℕ
 capacity = 4096
@@ -60,9 +60,9 @@ abbrev pub Absent : List ℕ → ℕ → ℕ → ℕ → Type 0
 Absent pairs count need low = (p : ℕ) → p < count → Pair pairs need low p → ⊥
 
 -- what a search finds: the pair's place, or that there is none
-abbrev pub FoundAt : List ℕ → ℕ → ℕ → ℕ → Found → Type 0
-FoundAt pairs count need low (Found.At p) = (p < count) × Pair pairs need low p
-FoundAt pairs count need low Found.Nothing = Absent pairs count need low
+pub data FoundAt (pairs : List ℕ) (count need low : ℕ) (r : Found) : Type 0 where
+  there : (p : ℕ) → r ≡ Found.At p → p < count → Pair pairs need low p → FoundAt pairs count need low r
+  nowhere : r ≡ Found.Nowhere → Absent pairs count need low → FoundAt pairs count need low r
 
 -- the pair stands at the next place, and every other as it was
 pub record Pushed (pairs : List ℕ) (count need low : ℕ) (pairs′ links : List ℕ) : Type 0 where

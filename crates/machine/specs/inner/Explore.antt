@@ -8,12 +8,13 @@ use Rattle.ground.specs.Bytes.{at}
 use Rattle.operations.specs.Alphabet.{stride}
 use Rattle.rule.specs.declared.situation.Situation.{Situation}
 use Rattle.rule.specs.Situation.{fresh}
-use Rattle.mealy.specs.Runs.{taken, Machine}
+use Rattle.mealy.specs.Runs.{Answer, refused, taken, Machine}
 use Rattle.mealy.specs.Arrivals.{arrival, More}
 use Rattle.mealy.specs.Exploring.{Exploring}
-use Rattle.machine.specs.Index.{capacity, needAt, lowAt, Index, Placed}
-use Rattle.machine.specs.Words.{words, answer, row}
-use Rattle.machine.specs.Rows.{Narrow}
+use Rattle.machine.specs.declared.step.Answered.{Answered}
+use Rattle.machine.specs.inner.Index.{capacity, needAt, lowAt, Index, Placed}
+use Rattle.machine.specs.inner.Words.{words, answer, row}
+use Rattle.machine.specs.inner.Writing.{Narrow}
 
 -- the situation at a place
 abbrev pub situationAt : List ℕ → ℕ → Situation
@@ -33,12 +34,32 @@ pub record Explored (m : Machine Situation ℕ) (pairs links table : List ℕ) (
   pub narrow : Narrow table
   pub outputs : (p o j : ℕ) → answer (at table p) ≡ taken o j → Output o
 
+-- the place of a situation, which is its two numbers
+abbrev pub PlacedAt : List ℕ → ℕ → Situation → List ℕ → List ℕ → ℕ → Type 0
+PlacedAt pairs count t pairs′ links q = Placed pairs count (t .need .packed) (t .low .packed) pairs′ links q
+
 -- the next situation's place is stored with the output, as the word of (i, a); or there is no room for the situation
-pub data Stored (pairs table : List ℕ) (count i a o need low : ℕ) (pairs′ links table′ : List ℕ) (r : ℕ) : Type 0 where
-  stored : (q : ℕ) → Placed pairs count need low pairs′ links q → (q ≡ capacity → ⊥) → table′ ≡ set table (i * stride + a) ((o + 1) * 4096 + q)
-      → r ≡ max count (q + 1) → Stored pairs table count i a o need low pairs′ links table′ r
-  unstored : (q : ℕ) → Placed pairs count need low pairs′ links q → q ≡ capacity → r ≡ 4097
-      → Stored pairs table count i a o need low pairs′ links table′ r
+pub data Stored (pairs table : List ℕ) (count i a o : ℕ) (next : Situation) (pairs′ links table′ : List ℕ) (r : ℕ) : Type 0 where
+  stored : (q : ℕ) → PlacedAt pairs count next pairs′ links q → (q ≡ capacity → ⊥) → table′ ≡ set table (i * stride + a) ((o + 1) * 4096 + q)
+      → r ≡ max count (q + 1) → Stored pairs table count i a o next pairs′ links table′ r
+  unstored : (q : ℕ) → PlacedAt pairs count next pairs′ links q → q ≡ capacity → r ≡ 4097
+      → Stored pairs table count i a o next pairs′ links table′ r
+
+-- what a step's answer means
+abbrev pub meant : Answered → Answer ℕ Situation
+meant Answered.Refused = refused
+meant (Answered.Taken o s) = taken o s
+
+-- an answer that can be noted: its output is a byte
+pub record Notable (y : Answered) : Type 0 where
+  pub byte : (o : ℕ) (next : Situation) → y ≡ Answered.Taken o next → o < 256
+
+-- the answer to (i, a) is noted: its situation is stored; or the table has the word of a refusal, and all else is as it was
+pub data Noted (pairs links table : List ℕ) (count i a : ℕ) (y : Answered) (pairs′ links′ table′ : List ℕ) (r : ℕ) : Type 0 where
+  passed : {o : ℕ} {next : Situation} → y ≡ Answered.Taken o next → Stored pairs table count i a o next pairs′ links′ table′ r
+      → Noted pairs links table count i a y pairs′ links′ table′ r
+  barred : y ≡ Answered.Refused → pairs′ ≡ pairs → links′ ≡ links → table′ ≡ set table (i * stride + a) 0 → r ≡ count
+      → Noted pairs links table count i a y pairs′ links′ table′ r
 
 -- how exploring goes on from count situations to candidate (i, a): with r of them; or there are more than there is room for
 pub data Onward (m : Machine Situation ℕ) (count : ℕ) (pairs links table : List ℕ) (i a r : ℕ) : Type 0 where

@@ -8,7 +8,7 @@ use Rattle.ground.specs.Bytes.{at}
 use Rattle.operations.specs.Alphabet.{stride}
 use Rattle.mealy.specs.Runs.{Machine}
 use Rattle.mealy.specs.Classes.{Numbering, Closed, Coarse, Round, States}
-use Rattle.machine.specs.Index.{capacity}
+use Rattle.machine.specs.inner.Index.{capacity}
 
 -- two things have one class exactly where they have one key
 abbrev pub ByKey : ℕ → (ℕ → ℕ) → (ℕ → ℕ) → Type 0
