@@ -5,9 +5,9 @@ use mathlib.Core.List.{List, [], _++_, append-assoc, append-nil}
 use native.Mathlib.Decide.{decLe}
 use native.Mathlib.Omega.{arith}
 use lib.ListN.{length, take, drop, length-append}
-use lib.Seq.{take-length, paste, length-paste, take-paste}
+use lib.Seq.{take-length, length-take-le, paste, length-paste, take-paste}
 use Rattle.printing.specs.Printing.{Prints}
-use Rattle.printing.specs.Putting.{Put}
+use Rattle.printing.specs.Putting.{Put, Fronts}
 use Rattle.printing.proofs.Copying.{placed-fits, placed-not, printed-fits, printed-not}
 
 -- a put is the least of such chains
@@ -76,9 +76,9 @@ put-then {a} {b} {c} {x} {y} {at} {r} {s} p q = record {
     by (yes l) h = omega (arith, p .size, q .past (omega (arith, long, h, p .place l, p .size)))
     by (no g) h = omega (arith, p .size, q .past (omega (arith, p .past (omega arith), p .size)))
 
--- the text of a chain from the front, where there is room for it
-pub put-ends : {before after text : List ℕ} {r : ℕ} → Put before after 0 r text → length text ≤ length before
-    → (r ≡ length text) × (take r after ≡ text)
-put-ends {before} {after} {text} p l =
+-- a chain from the front, where there is room for its text: the text is all that stands up to the place that is told
+pub put-fronts : {before after text : List ℕ} {r : ℕ} → Put before after 0 r text → length text ≤ length before → Fronts after r text
+put-fronts {before} {after} {text} {r} p l =
     let h : 0 + length text ≤ length before = omega arith in
-    (omega (arith, p .place h), p .bytes h)
+    let inside : r ≤ length after = omega (arith, p .place h, p .size) in
+    record { inside = inside; count = sym (length-take-le r after inside); bytes = p .bytes h }

@@ -10,3 +10,9 @@ pub record Put (before after : List ℕ) (at r : ℕ) (text : List ℕ) : Type 0
   pub place : at + length text ≤ length before → r ≡ at + length text
   pub bytes : at + length text ≤ length before → take r after ≡ take at before ++ text
   pub past : length before < at + length text → length before < r
+
+-- the first r bytes of a buffer are a text
+pub record Fronts (buffer : List ℕ) (r : ℕ) (text : List ℕ) : Type 0 where
+  pub inside : r ≤ length buffer
+  pub count : r ≡ length (take r buffer)
+  pub bytes : take r buffer ≡ text

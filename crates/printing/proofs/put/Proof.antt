@@ -66,7 +66,7 @@ loop-again c =
       v .1,
       simp length-set (v .2),
       ap (λ (b : List ℕ). set b (a .at + l .i) (getD (now (a .text)) (l .i) 0)) (v .3)
-      ∙ copied-more (now (a .buffer)) (now (a .text)) (a .at) (l .i) (omega arith) (v .1),
+          ∙ copied-more (now (a .buffer)) (now (a .text)) (a .at) (l .i) (omega arith) (v .1),
     )
 
 add-result-3 : tie.Need-add-result-3 Inv-loop μ-loop

@@ -1,5 +1,4 @@
 -- `put_decimal` meets its contract: the digits that are made stand behind those still to be made. Assumes nothing.
-use mathlib.Core.Path.{_≡_, sym}
 use native.Mathlib.Omega.{arith}
 use borrow.Author.Needs.{needs}
 use lib.ListN.{length-set}
