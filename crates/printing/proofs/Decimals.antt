@@ -51,14 +51,14 @@ length-digits (suc k) n l = by (ltb n 10) refl (length-digits k (n / 10))
         omega (arith, rest (omega (arith, p, l)), ap length (more-digits n (ltb-false n 10 e)), length-append (decimal (n / 10)) (digit (n % 10)))
 
 -- digits made from the last to the first: those of `left` are still to be made, the last of them at `first`
-pub record Made (number left first : ℕ) (digits : List ℕ) : Type 0 where
+pub record LastDigits (number left first : ℕ) (digits : List ℕ) : Type 0 where
   pub inside : first < 20
   pub long : length digits ≡ 20
   pub few : left < 10 ^ suc first
   pub whole : decimal number ≡ decimal left ++ drop (suc first) digits
 
-pub made-none : (number : ℕ) (digits : List ℕ) → number < 2 ^ 64 → length digits ≡ 20 → Made number number 19 digits
-made-none number digits l long = record {
+pub last-none : (number : ℕ) (digits : List ℕ) → number < 2 ^ 64 → length digits ≡ 20 → LastDigits number number 19 digits
+last-none number digits l long = record {
   inside = omega arith;
   long = long;
   few = lt-trans l (lit< tt);
@@ -72,14 +72,14 @@ ahead (x ∷ digits) zero d h = refl
 ahead (x ∷ digits) (suc first) d h = ahead digits first d (le-of-suc-le-suc h)
 
 module _ {number left : ℕ} {digits : List ℕ} where
-  pub made-more : (first : ℕ) → Made number left first digits → 10 ≤ left
-      → Made number (left / 10) (first - 1) (set digits first (48 + left % 10))
-  made-more zero m l = absurd (omega (arith, m .few))
-  made-more (suc first) m l =
+  pub last-more : (first : ℕ) → LastDigits number left first digits → 10 ≤ left
+      → LastDigits number (left / 10) (first - 1) (set digits first (48 + left % 10))
+  last-more zero m l = absurd (omega (arith, m .few))
+  last-more (suc first) m l =
       let d : ℕ = 48 + left % 10 in
       let rest : List ℕ = drop (suc (suc first)) digits in
       let less : first ≡ suc first - 1 = omega arith in
-      subst (λ (k : ℕ). Made number (left / 10) k (set digits (suc first) d)) less (record {
+      subst (λ (k : ℕ). LastDigits number (left / 10) k (set digits (suc first) d)) less (record {
         inside = omega (arith, m .inside);
         long = simp length-set (m .long);
         few = omega (arith, m .few, pow-suc 10 (suc first));
@@ -90,15 +90,16 @@ module _ {number left : ℕ} {digits : List ℕ} where
             ∙ ap (λ (x : List ℕ). decimal (left / 10) ++ x) (sym (ahead digits (suc first) d (omega (arith, m .inside, m .long))));
       })
 
-  pub some-left : (first : ℕ) → Made number left first digits → 10 ≤ left → 1 ≤ first
-  some-left zero m l = absurd (omega (arith, m .few))
-  some-left (suc first) m l = omega arith
+  pub last-left : (first : ℕ) → LastDigits number left first digits → 10 ≤ left → 1 ≤ first
+  last-left zero m l = absurd (omega (arith, m .few))
+  last-left (suc first) m l = omega arith
 
   -- the digits from the first on, as a part of the array
-  pub made-all : (first : ℕ) → Made number left first digits → left < 10
+  pub last-all : (first : ℕ) → LastDigits number left first digits → left < 10
       → take (20 - first) (drop first (set digits first (48 + left))) ≡ decimal number
-  made-all first m l =
+  last-all first m l =
       let d : ℕ = 48 + left in
-      take-all (20 - first) (drop first (set digits first d)) (omega (arith, length-drop first (set digits first d), length-set digits first d, m .long))
+      let all : List ℕ = set digits first d in
+      take-all (20 - first) (drop first all) (omega (arith, length-drop first all, length-set digits first d, m .long))
       ∙ ahead digits first d (omega (arith, m .inside, m .long))
       ∙ sym (m .whole ∙ ap (λ (x : List ℕ). x ++ drop (suc first) digits) (one-digit left l))

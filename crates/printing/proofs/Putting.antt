@@ -11,8 +11,8 @@ use Rattle.printing.specs.Putting.{Put, Fronts}
 use Rattle.printing.proofs.Copying.{placed-fits, placed-not, printed-fits, printed-not}
 
 -- a put is the least of such chains
-pub puts : {before after text : List ℕ} {at r : ℕ} → Prints before after at r text → Put before after at r text
-puts {before} {after} {text} {at} {r} p = by (decLe (at + length text) (length before))
+pub prints-put : {before after text : List ℕ} {at r : ℕ} → Prints before after at r text → Put before after at r text
+prints-put {before} {after} {text} {at} {r} p = by (decLe (at + length text) (length before))
   where
     room : ℕ
     room = length before

@@ -1,4 +1,4 @@
--- What several puts, one behind another, do to a buffer: as one put does where the text fits, and of the rest of the buffer nothing is said.
+-- What several puts, one behind another, do to a buffer: what one does where the text fits; of the rest of the buffer nothing is said.
 use Prim.Native.Nat.{ℕ, _+_, _≤_, _<_}
 use mathlib.Core.Path.{_≡_}
 use mathlib.Core.List.{List, _++_}

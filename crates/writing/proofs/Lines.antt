@@ -16,11 +16,11 @@ use Rattle.models.proofs.Reread.{fences-split}
 use Rattle.writing.specs.Writing.{fencesOf}
 
 -- the fence at a place of a model in memory
-abbrev pub fenceAt : List Name → List ℕ → Name → ℕ → Fence
-fenceAt names tables d k = record { name = unfilled (getD names k d .bytes); table = record { packed = getD tables k 0 } }
+abbrev pub heldFence : List Name → List ℕ → Name → ℕ → Fence
+heldFence names tables d k = record { name = unfilled (getD names k d .bytes); table = record { packed = getD tables k 0 } }
 
 fences-suc : (k : ℕ) (names : List Name) (tables : List ℕ) (d : Name) → k < length names → k < length tables
-    → fencesOf (suc k) names tables ≡ fencesOf k names tables ++ (fenceAt names tables d k ∷ [])
+    → fencesOf (suc k) names tables ≡ fencesOf k names tables ++ (heldFence names tables d k ∷ [])
 unfolding fencesOf
 fences-suc zero [] tables d ln lt = absurd (omega arith)
 fences-suc zero (n ∷ names) [] d ln lt = absurd (omega arith)
@@ -43,15 +43,16 @@ fences-cap zero more (n ∷ names) tables l = absurd (omega arith)
 fences-cap (suc k) more (n ∷ names) [] l = rw suc-add
 fences-cap (suc k) more (n ∷ names) (t ∷ tables) l =
     ap (λ (i : ℕ). fencesOf i (n ∷ names) (t ∷ tables)) (suc-add k more)
-    ∙ ap (λ (x : List Fence). record { name = unfilled (n .bytes); table = record { packed = t } } ∷ x) (fences-cap k more names tables (le-of-suc-le-suc l))
+    ∙ ap (λ (x : List Fence). record { name = unfilled (n .bytes); table = record { packed = t } } ∷ x)
+    (fences-cap k more names tables (le-of-suc-le-suc l))
 
 -- one line more, and the end
 module _ (names : List Name) (tables : List ℕ) where
   pub line-put : {a b c : List ℕ} {at r s : ℕ} (k : ℕ) (d : Name) → k < length names → k < length tables
-      → Put a b at r (fencesText (fencesOf k names tables)) → Put b c r s (fenceText (fenceAt names tables d k))
+      → Put a b at r (fencesText (fencesOf k names tables)) → Put b c r s (fenceText (heldFence names tables d k))
       → Put a c at s (fencesText (fencesOf (k + 1) names tables))
   line-put k d ln lt p q =
-      let f : Fence = fenceAt names tables d k in
+      let f : Fence = heldFence names tables d k in
       put-is
       (ap (λ (l : List ℕ). fencesText (fencesOf k names tables) ++ l) (sym (append-nil (fenceText f)))
       ∙ sym (fences-split (fencesOf k names tables) (f ∷ []))

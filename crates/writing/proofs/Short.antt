@@ -24,7 +24,7 @@ use Rattle.writing.specs.Writing.{fencesOf, described}
 use mir.Val.{Val}
 
 -- names of at most sixteen bytes, and at most sixteen fences
-record Small (d : Description) : Type 0 where
+record Bounded (d : Description) : Type 0 where
   name : length (d .name) ≤ 16
   few : length (d .fences) ≤ 16
   each-name : Each (λ (f : Fence). length (f .name) ≤ 16) (d .fences)
@@ -33,7 +33,7 @@ lines-short : (fs : List Fence) → Each (λ (f : Fence). length (f .name) ≤ 1
 lines-short [] h = omega arith
 lines-short (f ∷ fs) h = omega (arith, lines-short fs (h .1), fence-long f, h .0, length-append (fenceText f) (fencesText fs))
 
-short : (d : Description) → Small d → length (textOf d) ≤ 739
+short : (d : Description) → Bounded d → length (textOf d) ≤ 739
 short d h =
     omega (
       arith,

@@ -57,21 +57,21 @@ fn put_table(buf: &mut [u8], at: usize, table: Table) -> usize
     put_row(buf, fourth, table, Row::St, b'\n')
 }
 
-// A keyword, a name, what stands behind it, and a table.
+// A keyword, a name, a separator and a table.
 fn put_line<'a>(
     buf: &mut [u8],
     at: usize,
     keyword: &'a [u8],
     name: Name,
-    behind: &'a [u8],
+    separator: &'a [u8],
     table: Table,
 ) -> usize
-    ensures { λ r. ⌜ Put (now (buf .entry)) (now (buf .exit)) at r (linePart (now (keyword .entry)) name (now (behind .entry)) table) ⌝ }
+    ensures { λ r. ⌜ Put (now (buf .entry)) (now (buf .exit)) at r (linePart (now (keyword .entry)) name (now (separator .entry)) table) ⌝ }
 {
     let bytes = name.bytes;
     let name_at = printing::put(buf, at, keyword);
     let end = printing::put_name(buf, name_at, &bytes);
-    let table_at = printing::put(buf, end, behind);
+    let table_at = printing::put(buf, end, separator);
     put_table(buf, table_at, table)
 }
 

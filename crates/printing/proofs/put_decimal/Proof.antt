@@ -3,18 +3,18 @@ use native.Mathlib.Omega.{arith}
 use borrow.Author.Needs.{needs}
 use lib.ListN.{length-set}
 use Rattle.printing.proofs.Copying.{prints-is}
-use Rattle.printing.proofs.Decimals.{Made, made-none, made-more, some-left, made-all}
+use Rattle.printing.proofs.Decimals.{LastDigits, last-none, last-more, last-left, last-all}
 use Rattle.printing.proofs.put_decimal.Statement.{statement}
 use Rattle.printing.proofs.put_decimal.Tie as tie
 
 abbrev Inv-loop : tie.InvT-loop
-Inv-loop buffer at number digits₀ first₀ left₀ digits first left = Made number left first digits
+Inv-loop buffer at number digits₀ first₀ left₀ digits first left = LastDigits number left first digits
 
 abbrev μ-loop : tie.MeasureT-loop
 μ-loop buffer at number digits₀ first₀ left₀ digits first left = left
 
 loop-holds : tie.Need-loop-holds Inv-loop μ-loop
-loop-holds c = made-none _ _ (omega arith) (search needs)
+loop-holds c = last-none _ _ (omega arith) (search needs)
 
 cast-digits : tie.Need-cast-digits Inv-loop μ-loop
 cast-digits c = omega arith
@@ -26,13 +26,13 @@ array-write-digits : tie.Need-array-write-digits Inv-loop μ-loop
 array-write-digits c = search needs
 
 sub-first : tie.Need-sub-first Inv-loop μ-loop
-sub-first c = some-left _ (c .before .loop .inv) (c .loop-test .taken)
+sub-first c = last-left _ (c .before .loop .inv) (c .loop-test .taken)
 
 loop-less : tie.Need-loop-less Inv-loop μ-loop
 loop-less c = search needs
 
 loop-again : tie.Need-loop-again Inv-loop μ-loop
-loop-again c = made-more _ (c .before .loop .inv) (c .loop-test .taken)
+loop-again c = last-more _ (c .before .loop .inv) (c .loop-test .taken)
 
 cast-digits-2 : tie.Need-cast-digits-2 Inv-loop μ-loop
 cast-digits-2 c = omega arith
@@ -60,8 +60,10 @@ same-length c = search needs
 
 returns : tie.Need-returns Inv-loop μ-loop
 returns c =
-    let l = c .before .before .before .before .before .before .before .loop in
-    prints-is (made-all (l .first) (l .inv) (c .before .before .before .before .before .before .loop-test .left)) (c .before .before .put .ensures)
+    let p = c .before .before in
+    let end = p .before .before .before .before in
+    let l = end .before .loop in
+    prints-is (last-all (l .first) (l .inv) (end .loop-test .left)) (p .put .ensures)
 
 pub put-decimal-spec : {M : Type 1} → statement M
 put-decimal-spec =

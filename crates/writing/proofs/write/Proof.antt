@@ -15,7 +15,8 @@ use Rattle.writing.proofs.write.Statement.{statement}
 use Rattle.writing.proofs.write.Tie as tie
 
 -- the text stands in front
-fronts : (c : tie.After-put-model) → Fronts (c .put-model .last .0) (c .put-model .result) (textOf (described (c .before .before .before .args .model)))
+fronts : (c : tie.After-put-model)
+    → Fronts (c .put-model .last .0) (c .put-model .result) (textOf (described (c .before .before .before .args .model)))
 fronts c =
     let o = c .before .before .before in
     put-fronts (c .put-model .ensures) (omega (arith, held-short (o .args .model) _ (o .good .0)))

@@ -6,6 +6,6 @@ use Rattle.printing.specs.Name.{unfilled}
 use Rattle.models.specs.declared.model.Name.{Name}
 use Rattle.models.specs.Text.{tablePart}
 
--- a keyword, a name, what stands behind the name, and a table
+-- a keyword, a name, a separator and a table
 abbrev pub linePart : List ℕ → Name → List ℕ → Table → List ℕ
-linePart keyword name more table = keyword ++ (unfilled (name .bytes) ++ (more ++ tablePart table))
+linePart keyword name separator table = keyword ++ (unfilled (name .bytes) ++ (separator ++ tablePart table))

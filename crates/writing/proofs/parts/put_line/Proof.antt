@@ -1,6 +1,6 @@
 -- `put_line` meets its contract: its parts one behind another. Assumes nothing.
 use borrow.Author.Needs.{needs}
-use Rattle.printing.proofs.Putting.{puts, put-then}
+use Rattle.printing.proofs.Putting.{prints-put, put-then}
 use Rattle.writing.proofs.parts.put_line.Statement.{statement}
 use Rattle.writing.proofs.parts.put_line.Tie as tie
 
@@ -28,8 +28,8 @@ returns c =
     let second = third .before .before .before .before in
     let first = second .before .before .before .before .before in
     put-then
-    (puts (first .put .ensures))
-    (put-then (puts (second .put-name .ensures)) (put-then (puts (third .put2 .ensures)) (c .before .before .put-table .ensures)))
+    (prints-put (first .put .ensures))
+    (put-then (prints-put (second .put-name .ensures)) (put-then (prints-put (third .put2 .ensures)) (c .before .before .put-table .ensures)))
 
 pub put-line-spec : {M : Type 1} → statement M
 put-line-spec =

@@ -1,6 +1,6 @@
 -- `put_model` meets its contract: its parts one behind another. Assumes nothing.
 use borrow.Author.Needs.{needs}
-use Rattle.printing.proofs.Putting.{puts, put-then}
+use Rattle.printing.proofs.Putting.{prints-put, put-then}
 use Rattle.writing.proofs.parts.put_model.Statement.{statement}
 use Rattle.writing.proofs.parts.put_model.Tie as tie
 
@@ -27,9 +27,10 @@ same-length c = search needs
 
 returns : tie.Need-returns
 returns c =
-    let fences = c .before .before .before .before .before .before .before in
+    let end = c .before .before in
+    let fences = end .before .before .before .before .before in
     let head = fences .before .before .before .before in
-    put-then (head .put-line .ensures) (put-then (fences .put-fences .ensures) (puts (c .before .before .put .ensures)))
+    put-then (head .put-line .ensures) (put-then (fences .put-fences .ensures) (prints-put (end .put .ensures)))
 
 pub put-model-spec : {M : Type 1} → statement M
 put-model-spec =

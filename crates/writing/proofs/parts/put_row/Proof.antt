@@ -1,7 +1,7 @@
 -- `put_row` meets its contract: its bytes are the letters of its cells and the one behind them. Assumes nothing.
 use mathlib.Core.List.{[], _∷_}
 use borrow.Author.Needs.{needs}
-use Rattle.printing.proofs.Putting.{put-is, puts}
+use Rattle.printing.proofs.Putting.{put-is, prints-put}
 use Rattle.writing.proofs.parts.put_row.Statement.{statement}
 use Rattle.writing.proofs.parts.put_row.Tie as tie
 
@@ -34,7 +34,7 @@ returns c =
     (λ i.
     l .before .before .before .cell-letter .ensures i ∷ l .before .before .cell-letter2 .ensures i ∷ l .before .cell-letter3 .ensures i
     ∷ l .cell-letter4 .ensures i ∷ e ∷ [])
-    (puts (c .before .before .put .ensures))
+    (prints-put (c .before .before .put .ensures))
 
 pub put-row-spec : {M : Type 1} → statement M
 put-row-spec =
