@@ -1,11 +1,12 @@
--- The rule of the built-in table, by one computed test over all of it. Assumes nothing.
+-- The constant tables hold document 01's built-in models: one computed test over all rows. Assumes nothing.
 use Prim.Native.Nat.{ℕ, zero, suc, _+_, _*_, _-_, _%_, _<_}
 use mathlib.Core.Path.{_≡_, refl, sym, ap, _∙_}
 use mathlib.Core.List.{List, [], _∷_, _++_, map, append-nil}
-use mathlib.Core.Bool.{Bool, cond}
+use mathlib.Core.Bool.{Bool, true, false, cond}
 use native.Mathlib.Omega.{arith}
 use native.Mathlib.Nat.{le-of-suc-le-suc}
 use borrow.Author.Tests.{lt-ltb, le-ltb}
+use lib.Dec.{ltb}
 use lib.ListN.{length, getD, set, take, drop, replicate, length-drop, List·getD-map}
 use lib.Seq.{take-all, length-take-le}
 use Rattle.answers.specs.declared.Refusal.{Refusal}
@@ -13,8 +14,8 @@ use Rattle.tables.specs.Table.{table}
 use Rattle.models.specs.declared.model.Name.{Name}
 use Rattle.models.specs.declared.model.Model.{Model}
 use Rattle.models.specs.Reading.{filled, bare, held, tableIn, accepting, refusing}
-use Rattle.built_ins.specs.Numbers.{number, nameBytes, modelNumbers, nameFrom, modelFrom}
-use Rattle.built_ins.specs.BuiltIns.{rows, under, none, model, builtIns, builtIn, builtInReading}
+use Rattle.built_ins.specs.inner.Numbers.{number, nameBytes, modelNumbers, nameFrom, modelFrom}
+use Rattle.built_ins.specs.BuiltIns.{fourRows, under, none, model, builtIns, builtIn, builtInReading}
 
 -- what a function gives at 0 up to n
 upTo : {A : Type 0} → ℕ → (ℕ → A) → List A
@@ -29,7 +30,7 @@ up-to-at (suc n) f d (suc i) l = up-to-at n (λ i. f (suc i)) d i (le-of-suc-le-
 
 -- the test: row for row the table holds 01's models
 all-rows : upTo 16 modelFrom ≡ map held builtIns
-unfolding upTo modelFrom nameFrom nameBytes modelNumbers builtIns rows under tableIn table
+unfolding upTo modelFrom nameFrom nameBytes modelNumbers builtIns fourRows under tableIn table
 all-rows = refl
 
 pub row-is : (n : ℕ) → n < 16 → modelFrom n ≡ held (builtIn n)
@@ -46,9 +47,10 @@ name-at k l =
     let all : take (256 - k * 16) (drop (k * 16) nameBytes) ≡ drop (k * 16) nameBytes =
     take-all (256 - k * 16) (drop (k * 16) nameBytes) (omega (arith, length-drop (k * 16) nameBytes)) in
     let place : k * 16 ≡ 16 * k = omega arith in
-    let long : length (take 16 (drop (16 * k) nameBytes)) ≡ 16 = length-take-le 16 (drop (16 * k) nameBytes) (omega (arith, length-drop (16 * k) nameBytes)) in
+    let from : List ℕ = drop (16 * k) nameBytes in
+    let long : length (take 16 from) ≡ 16 = length-take-le 16 from (omega (arith, length-drop (16 * k) nameBytes)) in
     ap (λ (l : List ℕ). filled (take 16 l)) (all ∙ ap (λ (n : ℕ). drop n nameBytes) place)
-    ∙ ap (λ (l : List ℕ). record { bytes = l }) (ap (λ (n : ℕ). take 16 (drop (16 * k) nameBytes) ++ replicate (16 - n) 0) long ∙ append-nil _)
+    ∙ ap (λ (l : List ℕ). record { bytes = l }) (ap (λ (n : ℕ). take 16 from ++ replicate (16 - n) 0) long ∙ append-nil _)
 
 -- a bare model with the three fences of a row
 module _ (n : ℕ) (m : Model) (first second third : Name) where
@@ -71,10 +73,12 @@ module _ (n : ℕ) (m : Model) (first second third : Name) where
   }
 
 -- what a number is answered
-pub answered : (n : ℕ) (m : Model) → n < 16 → m ≡ modelFrom n → accepting m ≡ builtInReading n
+reading-by : (n : ℕ) (q : Bool) → ltb 15 n ≡ q → builtInReading n ≡ cond q (refusing Refusal.OutOfRange) (accepting (held (builtIn n)))
 unfolding builtInReading
-answered n m l e = ap accepting (e ∙ row-is n l) ∙ sym (ap (λ (q : Bool). cond q (refusing Refusal.OutOfRange) (accepting (held (builtIn n)))) (le-ltb 15 n (omega arith)))
+reading-by n q e = rw e
+
+pub answered : (n : ℕ) (m : Model) → n < 16 → m ≡ modelFrom n → accepting m ≡ builtInReading n
+answered n m l e = ap accepting (e ∙ row-is n l) ∙ sym (reading-by n false (le-ltb 15 n (omega arith)))
 
 pub out-of-range : (n : ℕ) → 15 < n → refusing Refusal.OutOfRange ≡ builtInReading n
-unfolding builtInReading
-out-of-range n l = sym (ap (λ (q : Bool). cond q (refusing Refusal.OutOfRange) (accepting (held (builtIn n)))) (lt-ltb 15 n l))
+out-of-range n l = sym (reading-by n true (lt-ltb 15 n l))

@@ -5,6 +5,7 @@ use mathlib.Core.List.{List, [], map}
 use native.Mathlib.Omega.{arith}
 use native.Mathlib.Decide.{decLt}
 use lib.ListN.{getD, List·getD-map}
+use Rattle.ground.proofs.Truths.{differ}
 use Rattle.answers.specs.declared.Refusal.{Refusal}
 use Rattle.answers.specs.declared.Verdict.{Verdict}
 use Rattle.tables.specs.Table.{table}
@@ -12,38 +13,36 @@ use Rattle.models.specs.declared.model.Reading.{Reading}
 use Rattle.models.specs.Model.{Description}
 use Rattle.models.specs.Text.{textOf}
 use Rattle.models.specs.Reading.{tableIn, held, accepting}
-use Rattle.writing.specs.Writing.{unfilled, fencesOf, described}
-use Rattle.writing.specs.Calls.{answerAfter, bufferAfter}
-use Rattle.writing.proofs.WrittenBack.{answer-settled, buffer-settled}
-use Rattle.built_ins.specs.BuiltIns.{rows, under, none, model, builtIns, builtIn, builtInReading}
+use Rattle.printing.specs.Name.{unfilled}
+use Rattle.writing.specs.Writing.{fencesOf, described}
+use Rattle.writing.specs.Calls.{textGiven}
+use Rattle.writing.proofs.WrittenBack.{given-settled}
+use Rattle.built_ins.specs.BuiltIns.{fourRows, under, none, model, builtIns, builtIn, builtInReading}
 use Rattle.built_ins.proofs.BuiltIns.{row-is, answered, out-of-range}
 
 -- what is held of a built-in model is the model: one computed test over all of them
 all-described : map (λ (d : Description). described (held d)) builtIns ≡ builtIns
-unfolding builtIns rows under tableIn table unfilled fencesOf
+unfolding builtIns fourRows under tableIn table unfilled fencesOf
 all-described = refl
 
 built-described : (n : ℕ) → described (held (builtIn n)) ≡ builtIn n
-unfolding builtIn rows under tableIn table unfilled fencesOf
+unfolding builtIn fourRows under tableIn table unfilled fencesOf
 built-described n =
     sym (List·getD-map (λ (d : Description). described (held d)) builtIns n (model "" none []))
     ∙ ap (λ (l : List Description). getD l n (model "" none [])) all-described
 
-built-back : (n : ℕ) → builtInReading n ≡ accepting (builtInReading n .model) → textOf (described (builtInReading n .model)) ≡ textOf (builtIn n)
+built-back : (n : ℕ) → builtInReading n ≡ accepting (builtInReading n .model)
+    → textOf (described (builtInReading n .model)) ≡ textOf (builtIn n)
 built-back n e = by (decLt 15 n)
   where
     by : Dec (15 < n) → textOf (described (builtInReading n .model)) ≡ textOf (builtIn n)
     by (yes l) =
         let v : Verdict.Refused Refusal.OutOfRange ≡ Verdict.Accepted = ap (λ (r : Reading). r .verdict) (out-of-range n l ∙ e) in
-        let z : _≡_ {A = ℕ} 0 1 = cc in
-        absurd (omega arith)
+        differ (cc)
     by (no g) =
         ap (λ (r : Reading). textOf (described (r .model))) (sym (answered n (held (builtIn n)) (omega arith) (sym (row-is n (omega arith)))))
         ∙ ap textOf (built-described n)
 
-module _ (out : List ℕ) (n : ℕ) where
-  pub answer-built : answerAfter (builtInReading n .verdict) (textOf (described (builtInReading n .model))) out ≡ answerAfter (builtInReading n .verdict) (textOf (builtIn n)) out
-  answer-built = answer-settled out (builtInReading n) _ _ (built-back n)
-
-  pub buffer-built : bufferAfter (builtInReading n .verdict) (textOf (described (builtInReading n .model))) out ≡ bufferAfter (builtInReading n .verdict) (textOf (builtIn n)) out
-  buffer-built = buffer-settled out (builtInReading n) _ _ (built-back n)
+pub given-built : (n : ℕ)
+    → textGiven (builtInReading n .verdict) (textOf (described (builtInReading n .model))) ≡ textGiven (builtInReading n .verdict) (textOf (builtIn n))
+given-built n = given-settled (builtInReading n) _ _ (built-back n)

@@ -15,17 +15,17 @@ use Rattle.models.specs.Model.{Fence, Description}
 use Rattle.models.specs.Reading.{tableIn, held, accepting, refusing}
 
 -- a table by its four rows, and by its ld and st rows
-unfoldable pub rows : String → Table
-rows text = tableIn (bytes text)
+unfoldable pub fourRows : String → Table
+fourRows text = tableIn (bytes text)
 
 unfoldable pub under : String → String → Table
 under ld st = tableIn (bytes "SSSS SSSS " ++ (bytes ld ++ (bytes " " ++ bytes st)))
 
 abbrev pub full : Table
-full = rows "SSSS SSSS SSSS SSSS"
+full = fourRows "SSSS SSSS SSSS SSSS"
 
 abbrev pub none : Table
-none = rows "---- ---- ---- ----"
+none = fourRows "---- ---- ---- ----"
 
 abbrev pub model : String → Table → List Fence → Description
 model name ppo fences = record { name = bytes name; ppo = ppo; fences = fences }
@@ -34,7 +34,7 @@ abbrev pub fence : String → Table → Fence
 fence name table = record { name = bytes name; table = table }
 
 abbrev pub power : Description
-power = model "POWER" none (fence "lwsync" (rows "SSSS --NN SSSS --NN") ∷ fence "sync" full ∷ [])
+power = model "POWER" none (fence "lwsync" (fourRows "SSSS --NN SSSS --NN") ∷ fence "sync" full ∷ [])
 
 abbrev pub arm : Description
 arm = model "ARM" none (fence "dmb" full ∷ [])

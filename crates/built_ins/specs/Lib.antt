@@ -1,2 +1,2 @@
 pub mod BuiltIns
-pub mod Numbers
+pub mod inner

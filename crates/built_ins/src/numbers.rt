@@ -1,7 +1,7 @@
 // The tables of the built-in models: their numbers, and the names that these count. Private: a row is asked for by its number below 16.
 ghost use Prim.Native.Nat.{_%_, _<_};
 ghost use mathlib.Core.Path.{_≡_};
-ghost use Rattle.built_ins.specs.Numbers.{nameFrom, modelFrom};
+ghost use Rattle.built_ins.specs.inner.Numbers.{nameFrom, modelFrom};
 use models::held;
 use models::model::Model;
 use models::model::Name;

@@ -1,3 +1,4 @@
-pub mod Putting
+pub mod Lines
+pub mod Short
 pub mod RoundTrip
 pub mod WrittenBack

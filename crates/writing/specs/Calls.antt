@@ -1,17 +1,10 @@
--- The calls that read a model, or take a built-in one, and write its text: the refusals of what is read go before that of the buffer, and a
--- refused call leaves the buffer as it was.
+-- The calls that read a model, or take a built-in one, and write its text: a refusal of what is read goes before that of the buffer.
 use Prim.Native.Nat.{ℕ}
 use mathlib.Core.List.{List}
-use lib.ListN.{length}
-use Rattle.answers.specs.declared.Answer.{Answer}
-use Rattle.answers.specs.Buffer.{bufferWith, answerWith}
 use Rattle.answers.specs.declared.Verdict.{Verdict}
+use Rattle.answers.specs.Given.{Given, gives, refuses}
 
--- the answer and the buffer, where writing the text follows a reading
-unfoldable pub answerAfter : Verdict → List ℕ → List ℕ → Answer
-answerAfter Verdict.Accepted text out = answerWith text 0 0 (length out)
-answerAfter (Verdict.Refused why) text out = Answer.Refused why
-
-unfoldable pub bufferAfter : Verdict → List ℕ → List ℕ → List ℕ
-bufferAfter Verdict.Accepted text out = bufferWith text out
-bufferAfter (Verdict.Refused why) text out = out
+-- what a call gives that writes a text where what it read is accepted
+abbrev pub textGiven : Verdict → List ℕ → Given
+textGiven Verdict.Accepted text = gives text 0 0
+textGiven (Verdict.Refused why) text = refuses why

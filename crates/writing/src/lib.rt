@@ -1,13 +1,11 @@
 // From a model to its text. The text is made in a buffer of the writer's own, so a refused call writes nothing.
 mod parts;
 
-ghost use mathlib.Core.Path.{_≡_};
-ghost use lib.ListN.{length};
-ghost use Rattle.answers.specs.Buffer.{bufferWith, answerWith};
+ghost use Rattle.answers.specs.Given.{gives, Delivers};
 ghost use Rattle.models.specs.Text.{textOf};
 ghost use Rattle.models.specs.Reading.{reading};
 ghost use Rattle.writing.specs.Writing.{described};
-ghost use Rattle.writing.specs.Calls.{answerAfter, bufferAfter};
+ghost use Rattle.writing.specs.Calls.{textGiven};
 use answers::Answer;
 use answers::Verdict;
 use models::model::Model;
@@ -15,8 +13,7 @@ use models::model::Reading;
 
 // The model's text in the buffer, or nothing where it does not fit.
 pub fn write(model: Model, out: &mut [u8]) -> Answer
-    ensures answer { λ r. ⌜ r ≡ answerWith (textOf (described model)) 0 0 (length (now (out .entry))) ⌝ }
-    ensures buffer { λ _. ⌜ now (out .exit) ≡ bufferWith (textOf (described model)) (now (out .entry)) ⌝ }
+    ensures { λ r. ⌜ Delivers (gives (textOf (described model)) 0 0) (now (out .entry)) r (now (out .exit)) ⌝ }
 {
     let mut buf = [0u8; 1024];
     let n = parts::put_model(&mut buf, model);
@@ -25,8 +22,7 @@ pub fn write(model: Model, out: &mut [u8]) -> Answer
 
 // Writes the text of a model that was read or made, or tells why there is none.
 pub fn write_reading(r: Reading, out: &mut [u8]) -> Answer
-    ensures answer { λ a. ⌜ a ≡ answerAfter (r .verdict) (textOf (described (r .model))) (now (out .entry)) ⌝ }
-    ensures buffer { λ _. ⌜ now (out .exit) ≡ bufferAfter (r .verdict) (textOf (described (r .model))) (now (out .entry)) ⌝ }
+    ensures { λ a. ⌜ Delivers (textGiven (r .verdict) (textOf (described (r .model)))) (now (out .entry)) a (now (out .exit)) ⌝ }
 {
     let verdict = r.verdict;
     let model = r.model;
@@ -38,8 +34,7 @@ pub fn write_reading(r: Reading, out: &mut [u8]) -> Answer
 
 // Reads a text and writes it back.
 pub fn rewrite(text: &[u8], out: &mut [u8]) -> Answer
-    ensures answer { λ a. ⌜ a ≡ answerAfter (reading (now (text .entry)) .verdict) (now (text .entry)) (now (out .entry)) ⌝ }
-    ensures buffer { λ _. ⌜ now (out .exit) ≡ bufferAfter (reading (now (text .entry)) .verdict) (now (text .entry)) (now (out .entry)) ⌝ }
+    ensures { λ a. ⌜ Delivers (textGiven (reading (now (text .entry)) .verdict) (now (text .entry))) (now (out .entry)) a (now (out .exit)) ⌝ }
 {
     write_reading(models::reader::read(text), out)
 }

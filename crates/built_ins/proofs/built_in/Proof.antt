@@ -1,4 +1,4 @@
--- `built_in` meets its contract. Assumes nothing.
+-- `built_in` meets its contract: each number below 16 has its row, and no other has. Assumes nothing.
 use mathlib.Core.Path.{_∙_}
 use native.Mathlib.Omega.{arith}
 use borrow.Author.Needs.{needs}

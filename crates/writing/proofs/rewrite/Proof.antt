@@ -1,12 +1,13 @@
--- `rewrite` meets its contract. Assumes nothing.
+-- `rewrite` meets its contract: what is written of what was read is the text itself. Assumes nothing.
 use mathlib.Core.Path.{ap, _∙_}
 use borrow.Author.Needs.{needs}
 use denote.Ref.{now}
+use Rattle.answers.proofs.Given.{delivers-as}
 use Rattle.models.specs.declared.model.Reading.{Reading}
 use Rattle.models.specs.Text.{textOf}
 use Rattle.writing.specs.Writing.{described}
-use Rattle.writing.specs.Calls.{answerAfter, bufferAfter}
-use Rattle.writing.proofs.WrittenBack.{answer-back, buffer-back}
+use Rattle.writing.specs.Calls.{textGiven}
+use Rattle.writing.proofs.WrittenBack.{given-back}
 use Rattle.writing.proofs.rewrite.Statement.{statement}
 use Rattle.writing.proofs.rewrite.Tie as tie
 
@@ -21,13 +22,11 @@ same-length c = search needs
 
 returns : tie.Need-returns
 returns c =
-    let a = c .before .before .before .before .before .before .before .args in
-    let w = c .before .before .write-reading .ensures in
-    let e = c .before .before .before .before .read .ensures .0 in
-    let out = now (a .out) in (
-      w .0 ∙ ap (λ (r : Reading). answerAfter (r .verdict) (textOf (described (r .model))) out) e ∙ answer-back out (now (a .text)),
-      w .1 ∙ ap (λ (r : Reading). bufferAfter (r .verdict) (textOf (described (r .model))) out) e ∙ buffer-back out (now (a .text)),
-    )
+    let r = c .before .before .before .before in
+    let text = now (r .before .before .before .args .text) in
+    delivers-as
+    (ap (λ (x : Reading). textGiven (x .verdict) (textOf (described (x .model)))) (r .read .ensures .0) ∙ given-back text)
+    (c .before .before .write-reading .ensures)
 
 pub rewrite-spec : {M : Type 1} → statement M
 rewrite-spec = tie.close (tie.spec read-requires write-reading-requires same-length returns)

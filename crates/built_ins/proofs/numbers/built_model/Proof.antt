@@ -3,7 +3,7 @@ use mathlib.Core.Path.{ap, _∙_}
 use borrow.Author.Needs.{needs}
 use Rattle.models.specs.declared.model.Name.{Name}
 use Rattle.models.specs.Reading.{bare}
-use Rattle.built_ins.specs.Numbers.{number, modelNumbers}
+use Rattle.built_ins.specs.inner.Numbers.{number, modelNumbers}
 use Rattle.built_ins.proofs.BuiltIns.{row-filled}
 use Rattle.built_ins.proofs.numbers.built_model.Statement.{statement}
 use Rattle.built_ins.proofs.numbers.built_model.Tie as tie
@@ -134,12 +134,16 @@ element-set-from-third c = search needs
 returns : tie.Need-returns
 unfolding modelNumbers
 returns c =
-    let n = c .before .before .before .before .before .args .n in
-    row-filled n (c .bare-model .result) (c .before .before .before .built-name2 .result) (c .before .before .built-name3 .result) (c .before .built-name4 .result)
-    (c .bare-model .ensures ∙ ap (λ (x : Name). bare x (record { packed = number n 1 })) (c .before .before .before .before .built-name .ensures))
-    (c .before .before .before .built-name2 .ensures)
-    (c .before .before .built-name3 .ensures)
-    (c .before .built-name4 .ensures)
+    let name = c .before .before .before .before in
+    let first = c .before .before .before .built-name2 in
+    let second = c .before .before .built-name3 in
+    let third = c .before .built-name4 in
+    let n = name .before .args .n in
+    row-filled n (c .bare-model .result) (first .result) (second .result) (third .result)
+    (c .bare-model .ensures ∙ ap (λ (x : Name). bare x (record { packed = number n 1 })) (name .built-name .ensures))
+    (first .ensures)
+    (second .ensures)
+    (third .ensures)
 
 pub built-model-spec : {M : Type 1} → statement M
 built-model-spec =

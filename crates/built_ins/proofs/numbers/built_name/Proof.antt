@@ -1,10 +1,10 @@
--- `built_name` meets its contract. Assumes nothing.
+-- `built_name` meets its contract: a name has sixteen bytes of the table. Assumes nothing.
 use Prim.Native.Nat.{_%_}
 use mathlib.Core.Path.{_∙_}
 use native.Mathlib.Nat.{mod-lt}
 use native.Mathlib.Omega.{arith}
 use borrow.Author.Needs.{needs}
-use Rattle.built_ins.specs.Numbers.{nameBytes}
+use Rattle.built_ins.specs.inner.Numbers.{nameBytes}
 use Rattle.built_ins.proofs.BuiltIns.{name-at}
 use Rattle.built_ins.proofs.numbers.built_name.Statement.{statement}
 use Rattle.built_ins.proofs.numbers.built_name.Tie as tie
@@ -26,7 +26,9 @@ first-bytes-requires c κs = search needs
 
 returns : tie.Need-returns
 unfolding nameBytes
-returns c = c .first-bytes .ensures ∙ name-at (c .before .before .before .args .index % 16) (mod-lt (c .before .before .before .args .index) (omega arith))
+returns c =
+    let i = c .before .before .before .args .index in
+    c .first-bytes .ensures ∙ name-at (i % 16) (mod-lt i (omega arith))
 
 pub built-name-spec : {M : Type 1} → statement M
 built-name-spec =

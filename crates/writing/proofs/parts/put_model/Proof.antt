@@ -1,12 +1,17 @@
--- `put_model` meets its contract: its parts one after another. Assumes nothing.
-use native.Mathlib.Omega.{arith}
+-- `put_model` meets its contract: its parts one behind another. Assumes nothing.
 use borrow.Author.Needs.{needs}
-use Rattle.writing.proofs.Putting.{put-then}
+use Rattle.printing.proofs.Putting.{prints-put, put-then}
 use Rattle.writing.proofs.parts.put_model.Statement.{statement}
 use Rattle.writing.proofs.parts.put_model.Tie as tie
 
-put-head-requires : tie.Need-put-head-requires
-put-head-requires c κs = search needs
+slice-aggregate-put-line : tie.Need-slice-aggregate-put-line
+slice-aggregate-put-line c = search needs
+
+slice-aggregate-put-line-2 : tie.Need-slice-aggregate-put-line-2
+slice-aggregate-put-line-2 c = search needs
+
+put-line-requires : tie.Need-put-line-requires
+put-line-requires c κs = search needs
 
 put-fences-requires : tie.Need-put-fences-requires
 put-fences-requires c κs = search needs
@@ -21,13 +26,19 @@ same-length : tie.Need-same-length
 same-length c = search needs
 
 returns : tie.Need-returns
-returns c = (put-then (c .before .before .before .before .before .before .before .before .before .before .before .put-head .ensures .0) (put-then (c .before .before .before .before .before .before .before .put-fences .ensures .0) (c .before .before .put .ensures)), omega (arith, c .before .before .put .ensures .long, c .before .before .before .before .before .before .before .put-fences .ensures .1))
+returns c =
+    let end = c .before .before in
+    let fences = end .before .before .before .before .before in
+    let head = fences .before .before .before .before in
+    put-then (head .put-line .ensures) (put-then (fences .put-fences .ensures) (prints-put (end .put .ensures)))
 
 pub put-model-spec : {M : Type 1} → statement M
 put-model-spec =
     tie.close
     (tie.spec
-    put-head-requires
+    slice-aggregate-put-line
+    slice-aggregate-put-line-2
+    put-line-requires
     put-fences-requires
     slice-aggregate-put
     put-requires

@@ -1,7 +1,7 @@
--- `put_row` meets its contract. Assumes nothing.
+-- `put_row` meets its contract: its bytes are the letters of its cells and the one behind them. Assumes nothing.
 use mathlib.Core.List.{[], _∷_}
 use borrow.Author.Needs.{needs}
-use Rattle.writing.proofs.Putting.{put-is}
+use Rattle.printing.proofs.Putting.{put-is, prints-put}
 use Rattle.writing.proofs.parts.put_row.Statement.{statement}
 use Rattle.writing.proofs.parts.put_row.Tie as tie
 
@@ -27,7 +27,14 @@ same-length : tie.Need-same-length
 same-length c = search needs
 
 returns : tie.Need-returns
-returns c = put-is (λ i. c .before .before .before .before .before .before .before .before .cell-letter .ensures i ∷ c .before .before .before .before .before .before .before .cell-letter2 .ensures i ∷ c .before .before .before .before .before .before .cell-letter3 .ensures i ∷ c .before .before .before .before .before .cell-letter4 .ensures i ∷ c .before .before .before .before .before .before .before .before .before .before .args .end ∷ []) (c .before .before .put .ensures)
+returns c =
+    let l = c .before .before .before .before .before in
+    let e = l .before .before .before .before .before .args .end in
+    put-is
+    (λ i.
+    l .before .before .before .cell-letter .ensures i ∷ l .before .before .cell-letter2 .ensures i ∷ l .before .cell-letter3 .ensures i
+    ∷ l .cell-letter4 .ensures i ∷ e ∷ [])
+    (prints-put (c .before .before .put .ensures))
 
 pub put-row-spec : {M : Type 1} → statement M
 put-row-spec =

@@ -1,6 +1,6 @@
 -- `put_table` meets its contract: the rows one after another. Assumes nothing.
 use borrow.Author.Needs.{needs}
-use Rattle.writing.proofs.Putting.{put-then}
+use Rattle.printing.proofs.Putting.{put-then}
 use Rattle.writing.proofs.parts.put_table.Statement.{statement}
 use Rattle.writing.proofs.parts.put_table.Tie as tie
 
@@ -20,7 +20,12 @@ same-length : tie.Need-same-length
 same-length c = search needs
 
 returns : tie.Need-returns
-returns c = put-then (put-then (put-then (c .before .before .before .before .before .before .before .before .before .before .before .before .before .before .put-row .ensures) (c .before .before .before .before .before .before .before .before .before .before .put-row2 .ensures)) (c .before .before .before .before .before .before .put-row3 .ensures)) (c .before .before .put-row4 .ensures)
+returns c =
+    let third = c .before .before .before .before .before .before in
+    let second = third .before .before .before .before in
+    put-then
+    (put-then (put-then (second .before .before .before .before .put-row .ensures) (second .put-row2 .ensures)) (third .put-row3 .ensures))
+    (c .before .before .put-row4 .ensures)
 
 pub put-table-spec : {M : Type 1} → statement M
 put-table-spec =

@@ -1,0 +1,5 @@
+pub mod Decimals
+pub mod Names
+pub mod Copying
+pub mod Putting
+pub mod Unique

@@ -1,0 +1,4 @@
+pub mod Decimal
+pub mod Name
+pub mod Printing
+pub mod Putting
