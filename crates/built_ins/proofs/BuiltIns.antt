@@ -13,7 +13,8 @@ use Rattle.answers.specs.declared.Refusal.{Refusal}
 use Rattle.tables.specs.Table.{table}
 use Rattle.models.specs.declared.model.Name.{Name}
 use Rattle.models.specs.declared.model.Model.{Model}
-use Rattle.models.specs.Reading.{filled, bare, held, tableIn, accepting, refusing}
+use Rattle.models.specs.Reading.{tableIn}
+use Rattle.models.specs.Told.{filled, held, bare, accepting, refusing}
 use Rattle.built_ins.specs.inner.Numbers.{number, nameBytes, modelNumbers, nameFrom, modelFrom}
 use Rattle.built_ins.specs.BuiltIns.{fourRows, under, none, model, builtIns, builtIn, builtInReading}
 

@@ -12,7 +12,8 @@ use Rattle.tables.specs.Table.{table}
 use Rattle.models.specs.declared.model.Reading.{Reading}
 use Rattle.models.specs.Model.{Description}
 use Rattle.models.specs.Text.{textOf}
-use Rattle.models.specs.Reading.{tableIn, held, accepting}
+use Rattle.models.specs.Reading.{tableIn}
+use Rattle.models.specs.Told.{held, accepting}
 use Rattle.printing.specs.Name.{unfilled}
 use Rattle.writing.specs.Writing.{fencesOf, described}
 use Rattle.writing.specs.Calls.{textGiven}

@@ -12,7 +12,8 @@ use Rattle.answers.specs.declared.Refusal.{Refusal}
 use Rattle.tables.specs.declared.table.Table.{Table}
 use Rattle.models.specs.declared.model.Reading.{Reading}
 use Rattle.models.specs.Model.{Fence, Description}
-use Rattle.models.specs.Reading.{tableIn, held, accepting, refusing}
+use Rattle.models.specs.Reading.{tableIn}
+use Rattle.models.specs.Told.{held, accepting, refusing}
 
 -- a table by its four rows, and by its ld and st rows
 unfoldable pub fourRows : String → Table

@@ -17,9 +17,9 @@ use Rattle.rule.specs.Situation.{asks}
 use Rattle.models.specs.declared.model.Model.{Model}
 use Rattle.models.specs.declared.model.Name.{Name}
 use Rattle.models.specs.declared.model.Reading.{Reading}
-use Rattle.models.specs.Model.{NameFormed}
-use Rattle.models.specs.Reading.{Told, over, departs, repeated, accepted}
-use Rattle.models.proofs.NamePart.{each-at}
+use Rattle.models.specs.Told.{Told, over, departs, repeated, accepted}
+use Rattle.texts.proofs.NamePart.{each-at}
+use Rattle.texts.specs.NamePart.{NameFormed}
 use Rattle.runs.specs.Call.{modelOf, Whole}
 use Rattle.mealy.specs.Runs.{taken}
 use Rattle.mealy.specs.Arrivals.{arrival}

@@ -12,7 +12,8 @@ use Rattle.operations.specs.Operation.{byteIs}
 use Rattle.rule.specs.declared.way.Way.{Way}
 use Rattle.models.specs.declared.model.Model.{Model}
 use Rattle.models.specs.declared.model.Reading.{Reading}
-use Rattle.models.specs.Reading.{reading, Told}
+use Rattle.models.specs.Reading.{reading}
+use Rattle.models.specs.Told.{Told}
 use Rattle.writing.specs.Writing.{unfilled}
 use Rattle.runs.proofs.Whole.{whole-when}
 use Rattle.runs.specs.Bytes.{isFence, fenceBytes}

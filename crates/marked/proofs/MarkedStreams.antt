@@ -7,7 +7,8 @@ use Rattle.rule.specs.Pairs.{settled}
 use Rattle.rule.specs.Rule.{rule, onward}
 use Rattle.built_ins.specs.BuiltIns.{rows, under, builtIns, builtIn}
 use Rattle.models.specs.Reading.{headAt, fenceAt, nameIn, tableIn, ended, linesFrom, reading}
-use Rattle.models.specs.Scan.{follow, nameRun, nameStep}
+use Rattle.texts.specs.NamePart.{nameRun, nameStep}
+use Rattle.texts.specs.Pattern.{follow}
 use Rattle.runs.specs.Bytes.{operations, fault, direct, fenceBytes}
 use Rattle.marked.specs.Marked.{Entry, marked, given}
 

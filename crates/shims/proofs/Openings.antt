@@ -10,8 +10,9 @@ use Rattle.rule.specs.declared.way.Way.{Way}
 use Rattle.rule.specs.Rule.{wayNumber}
 use Rattle.models.specs.declared.model.Model.{Model}
 use Rattle.models.specs.declared.model.Reading.{Reading}
-use Rattle.models.specs.Reading.{reading, accepting, Told, over, departs, repeated, accepted}
+use Rattle.models.specs.Reading.{reading}
 use Rattle.models.proofs.Words.{told}
+use Rattle.models.specs.Told.{accepting, Told, over, departs, repeated, accepted}
 use Rattle.shims.specs.declared.WayRead.{WayRead}
 use Rattle.shims.specs.declared.Models.{Models}
 use Rattle.shims.specs.declared.Opening.{Opening}

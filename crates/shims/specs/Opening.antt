@@ -11,8 +11,9 @@ use Rattle.answers.specs.Given.{Given, refuses}
 use Rattle.rule.specs.declared.way.Way.{Way}
 use Rattle.models.specs.declared.model.Model.{Model}
 use Rattle.models.specs.declared.model.Reading.{Reading}
-use Rattle.models.specs.Reading as reader
-use Rattle.models.specs.Reading.{reading, accepting}
+use Rattle.models.specs.Told as reader
+use Rattle.models.specs.Reading.{reading}
+use Rattle.models.specs.Told.{accepting}
 use Rattle.shims.specs.declared.WayRead.{WayRead}
 use Rattle.shims.specs.declared.Models.{Models}
 use Rattle.shims.specs.declared.Opening.{Opening}

@@ -16,13 +16,13 @@ use Rattle.printing.specs.Name.{unfilled}
 use Rattle.models.specs.declared.model.Name.{Name}
 use Rattle.models.specs.declared.model.Model.{Model}
 use Rattle.models.specs.declared.model.Reading.{Reading}
-use Rattle.models.specs.Model.{Fence, Description, Each, FenceFormed, Formed}
+use Rattle.models.specs.Model.{Fence, Description, FenceFormed, Formed}
 use Rattle.models.specs.Text.{textOf}
-use Rattle.models.specs.Reading.{held, accepting, refusing, Distinct, Told, over, departs, repeated, accepted, reading}
+use Rattle.models.specs.Reading.{reading}
 use Rattle.writing.specs.Writing.{fencesOf, described}
-use Rattle.models.proofs.NamePart.{NameBytes}
-use Rattle.models.proofs.Pushed.{packedOf, heldName}
 use Rattle.models.proofs.Words.{told, told-is}
+use Rattle.models.specs.Told.{held, accepting, refusing, Distinct, Told, over, departs, repeated, accepted, packedOf, heldName}
+use Rattle.texts.specs.NamePart.{Each, NameBytes}
 use Rattle.writing.proofs.Short.{text-short}
 
 -- no name byte is zero

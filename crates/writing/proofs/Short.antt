@@ -15,9 +15,10 @@ use Rattle.ground.specs.Bytes.{bytes}
 use Rattle.printing.proofs.Names.{unfilled-short}
 use Rattle.models.specs.declared.model.Name.{Name}
 use Rattle.models.specs.declared.model.Model.{Model}
-use Rattle.models.specs.Model.{Fence, Description, Each, FenceFormed, Formed}
+use Rattle.models.specs.Model.{Fence, Description, FenceFormed, Formed}
 use Rattle.models.specs.Text.{tablePart, fenceText, fencesText, headText, textOf}
 use Rattle.models.proofs.Reread.{fence-long}
+use Rattle.texts.specs.NamePart.{Each}
 use Rattle.models.proofs.model.Name as name
 use Rattle.models.proofs.model.Model as model
 use Rattle.writing.specs.Writing.{fencesOf, described}

@@ -7,7 +7,8 @@ use Rattle.answers.specs.declared.Verdict.{Verdict}
 use Rattle.answers.specs.Given.{gives}
 use Rattle.models.specs.declared.model.Reading.{Reading}
 use Rattle.models.specs.Text.{textOf}
-use Rattle.models.specs.Reading.{accepting, reading}
+use Rattle.models.specs.Reading.{reading}
+use Rattle.models.specs.Told.{accepting}
 use Rattle.writing.specs.Writing.{described}
 use Rattle.writing.specs.Calls.{textGiven}
 use Rattle.writing.proofs.RoundTrip.{written-read}

@@ -5,7 +5,7 @@ use mathlib.Core.List.{List, [], _∷_}
 use lib.ListN.{getD, take, drop, replicate}
 use Rattle.models.specs.declared.model.Name.{Name}
 use Rattle.models.specs.declared.model.Model.{Model}
-use Rattle.models.specs.Reading.{filled}
+use Rattle.models.specs.Told.{filled}
 
 unfoldable pub nameBytes : List ℕ
 nameBytes =

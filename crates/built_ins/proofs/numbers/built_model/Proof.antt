@@ -2,7 +2,7 @@
 use mathlib.Core.Path.{ap, _∙_}
 use borrow.Author.Needs.{needs}
 use Rattle.models.specs.declared.model.Name.{Name}
-use Rattle.models.specs.Reading.{bare}
+use Rattle.models.specs.Told.{bare}
 use Rattle.built_ins.specs.inner.Numbers.{number, modelNumbers}
 use Rattle.built_ins.proofs.BuiltIns.{row-filled}
 use Rattle.built_ins.proofs.numbers.built_model.Statement.{statement}
