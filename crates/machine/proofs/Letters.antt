@@ -15,8 +15,9 @@ use Rattle.rule.specs.declared.situation.Situation.{Situation}
 use Rattle.rule.specs.declared.way.Way.{Way}
 use Rattle.rule.specs.declared.way.Choice.{Choice}
 use Rattle.rule.specs.Pairs.{Model}
-use Rattle.rule.specs.Situation.{none, pending, choiceOf, stepOf}
-use Rattle.rule.proofs.Choices.{Takes, serves, choice-nothing, choice-pick, pick-takes}
+use Rattle.rule.specs.Situation.{none, pending, choiceOf, stepOf, serves}
+use Rattle.rule.proofs.Choices.{choice-nothing, choice-pick, pick-takes}
+use Rattle.rule.specs.Rule.{Takes}
 use Rattle.mealy.specs.Runs.{Answer, taken}
 use Rattle.mealy.proofs.Runs.{untaken}
 use Rattle.machine.specs.Shim.{lettersOf, stepAnswer, letterAnswer, shim}

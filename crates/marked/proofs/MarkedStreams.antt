@@ -2,6 +2,7 @@
 use mathlib.Core.Path.{_≡_, refl}
 use mathlib.Core.List.{map}
 use Rattle.tables.specs.Table.{table, mergedTable}
+use Rattle.ground.specs.Lowest.{lowest}
 use Rattle.operations.specs.Operation.{byteIs}
 use Rattle.rule.specs.Pairs.{settled}
 use Rattle.rule.specs.Rule.{rule, onward}
@@ -14,5 +15,5 @@ use Rattle.marked.specs.Marked.{Entry, marked, given}
 
 -- On every marked stream the call gives what document 01 says, from the models' texts to the bytes put out.
 pub marked-streams : map given marked ≡ map (λ (e : Entry). e .gives) marked
-unfolding marked follow nameRun nameStep reading headAt fenceAt nameIn tableIn ended linesFrom rows under builtIns builtIn byteIs settled rule onward operations fault direct fenceBytes table mergedTable
+unfolding lowest marked follow nameRun nameStep reading headAt fenceAt nameIn tableIn ended linesFrom rows under builtIns builtIn byteIs settled rule onward operations fault direct fenceBytes table mergedTable
 marked-streams = refl

@@ -15,10 +15,8 @@ use Rattle.answers.specs.Given.{Given, refuses}
 use Rattle.operations.specs.Operation.{byteOf}
 use Rattle.rule.specs.declared.way.Way.{Way}
 use Rattle.rule.specs.Stream.{Stream, fence, accesses, count, kindAt, fences, before, through}
-use Rattle.rule.specs.Pairs.{Model, Keeps, settled}
-use Rattle.rule.specs.Rule.{Ran, done, refused, run, Placing}
-use Rattle.rule.proofs.Choices.{Takes}
-use Rattle.rule.proofs.Kept.{Settled}
+use Rattle.rule.specs.Pairs.{Model, Keeps, settled, Settled}
+use Rattle.rule.specs.Rule.{Ran, done, refused, run, Placing, Takes}
 use Rattle.rule.proofs.Theorems.{same-accesses, every-pair-kept, fence-exactly-when, nothing-at-the-end, fewest-fences}
 use Rattle.shims.specs.Models.{modelOf}
 use Rattle.shims.specs.Opening.{wayOf, opened, unlessRefused}
