@@ -96,13 +96,13 @@ fn take_byte(image: &[u8], state: usize, byte: u8) -> Step
 }
 
 // How far a run has come: bytes put out, fences among them, and the state.
-pub struct Progress {
-    pub written: usize,
-    pub fences: usize,
-    pub state: usize,
+struct Progress {
+    written: usize,
+    fences: usize,
+    state: usize,
 }
 
-pub enum Ending {
+enum Ending {
     Ended(Progress),
     Stopped(Stop, usize),
 }
