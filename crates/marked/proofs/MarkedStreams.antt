@@ -13,5 +13,9 @@ use Rattle.marked.specs.Marked.{Entry, marked, given}
 
 -- On every marked stream the call gives what document 01 says, from the models' texts to the bytes put out.
 pub marked-streams : map given marked ≡ map (λ (e : Entry). e .gives) marked
-unfolding marked follow nameRun nameStep reading headAt fenceAt nameIn tableIn ended linesFrom rows under builtIns builtIn byteIs settled rule onward operations fault direct fenceBytes table mergedTable
+unfolding marked builtIn builtIns rows under
+
+unfolding reading linesFrom ended headAt fenceAt nameIn tableIn follow nameRun nameStep table mergedTable
+
+unfolding direct operations fault fenceBytes byteIs onward rule settled
 marked-streams = refl
