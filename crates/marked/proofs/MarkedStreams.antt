@@ -5,7 +5,7 @@ use Rattle.tables.specs.Table.{table, mergedTable}
 use Rattle.operations.specs.Operation.{byteIs}
 use Rattle.rule.specs.Pairs.{settled}
 use Rattle.rule.specs.Rule.{rule, onward}
-use Rattle.built_ins.specs.BuiltIns.{rows, under, builtIns, builtIn}
+use Rattle.built_ins.specs.BuiltIns.{fourRows, under, builtIns, builtIn}
 use Rattle.models.specs.Reading.{headAt, fenceAt, nameIn, tableIn, ended, linesFrom, reading}
 use Rattle.models.specs.Scan.{follow, nameRun, nameStep}
 use Rattle.runs.specs.Bytes.{operations, fault, direct, fenceBytes}
@@ -13,9 +13,7 @@ use Rattle.marked.specs.Marked.{Entry, marked, given}
 
 -- On every marked stream the call gives what document 01 says, from the models' texts to the bytes put out.
 pub marked-streams : map given marked ≡ map (λ (e : Entry). e .gives) marked
-unfolding marked builtIn builtIns rows under
-
-unfolding reading linesFrom ended headAt fenceAt nameIn tableIn follow nameRun nameStep table mergedTable
-
-unfolding direct operations fault fenceBytes byteIs onward rule settled
+unfolding marked builtIn builtIns fourRows under
+    reading linesFrom ended headAt fenceAt nameIn tableIn follow nameRun nameStep table mergedTable
+    direct operations fault fenceBytes byteIs onward rule settled
 marked-streams = refl
