@@ -6,7 +6,7 @@ use Rattle.ground.specs.Lowest.{lowest}
 use Rattle.operations.specs.Operation.{byteIs}
 use Rattle.rule.specs.Pairs.{settled}
 use Rattle.rule.specs.Rule.{rule, onward}
-use Rattle.built_ins.specs.BuiltIns.{rows, under, builtIns, builtIn}
+use Rattle.built_ins.specs.BuiltIns.{fourRows, under, builtIns, builtIn}
 use Rattle.models.specs.Reading.{headAt, fenceAt, nameIn, tableIn, ended, linesFrom, reading}
 use Rattle.texts.specs.NamePart.{nameRun, nameStep}
 use Rattle.texts.specs.Pattern.{follow}
@@ -15,5 +15,7 @@ use Rattle.marked.specs.Marked.{Entry, marked, given}
 
 -- On every marked stream the call gives what document 01 says, from the models' texts to the bytes put out.
 pub marked-streams : map given marked ≡ map (λ (e : Entry). e .gives) marked
-unfolding lowest marked follow nameRun nameStep reading headAt fenceAt nameIn tableIn ended linesFrom rows under builtIns builtIn byteIs settled rule onward operations fault direct fenceBytes table mergedTable
+unfolding lowest marked builtIn builtIns fourRows under
+    reading linesFrom ended headAt fenceAt nameIn tableIn follow nameRun nameStep table mergedTable
+    direct operations fault fenceBytes byteIs onward rule settled
 marked-streams = refl

@@ -10,7 +10,6 @@ use lib.Dec.{ltb}
 use lib.ListN.{length}
 use Rattle.ground.proofs.Truths.{differ}
 use Rattle.answers.specs.declared.Refusal.{Refusal}
-use Rattle.answers.specs.declared.Verdict.{Verdict}
 use Rattle.answers.specs.Given.{Given, refuses}
 use Rattle.operations.specs.Operation.{byteOf}
 use Rattle.rule.specs.declared.way.Way.{Way}
@@ -19,8 +18,10 @@ use Rattle.rule.specs.Pairs.{Model, Keeps, settled, Settled}
 use Rattle.rule.specs.Rule.{Ran, done, refused, run, Placing, Takes}
 use Rattle.rule.proofs.Theorems.{same-accesses, every-pair-kept, fence-exactly-when, nothing-at-the-end, fewest-fences}
 use Rattle.shims.specs.Models.{modelOf}
-use Rattle.shims.specs.Opening.{wayOf, opened, unlessRefused}
-use Rattle.shims.proofs.Openings.{opens}
+use Rattle.shims.specs.Opening.{wayOf, opened}
+use Rattle.shims.proofs.Calls.{opened-gives}
+use Rattle.shims.proofs.Theorems.{opens}
+use Rattle.shims.specs.declared.Models.{Models}
 use Rattle.runs.proofs.Judging.{good-byte}
 use Rattle.runs.specs.Bytes.{Judged, good, bad, judged, operations, operationsFrom, fault, faultFrom, puts, outcomeOf, direct}
 use Rattle.runs.specs.Call.{onStream, runGiven, outcome}
@@ -58,12 +59,7 @@ direct-put way up target stream bytes e =
     by (done out) r none g h = (out, r, g, (cc))
     by (done out) r (some why) g h = differ (cc)
 
--- the stages of a call that puts bytes out have all gone on
-
-opening-put : (v : Verdict) (x : Given) (bytes : List ℕ) → unlessRefused v x ≡ puts bytes → (v ≡ Verdict.Accepted) × (x ≡ puts bytes)
-opening-put Verdict.Accepted x bytes e = (refl, e)
-opening-put (Verdict.Refused why) x bytes e = differ (cc)
-
+-- a stream that is put out is within its limit
 stream-put : (stream : List ℕ) (x : Given) (bytes : List ℕ) → onStream stream x ≡ puts bytes → (length stream ≤ 4096) × (x ≡ puts bytes)
 stream-put stream x bytes e = by (ltb 4096 (length stream)) refl e
   where
@@ -79,7 +75,7 @@ direct-run number upstream target stream bytes e =
     let m = opened number upstream target .models in
     let up = modelOf (m .upstream) in
     let on = modelOf (m .target) in
-    let o = opening-put (opened number upstream target .verdict) (runGiven m stream) bytes e in
+    let o = opened-gives (opened number upstream target) (λ (m : Models). runGiven m stream) e in
     let s = stream-put stream (direct (m .way) up on stream) bytes (o .1) in
     let d = direct-put (m .way) up on stream bytes (s .1) in
     record {

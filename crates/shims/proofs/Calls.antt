@@ -3,10 +3,11 @@
 use Prim.Native.Nat.{ℕ}
 use mathlib.Core.Path.{_≡_, refl, sym, ap, subst, _∙_}
 use mathlib.Core.List.{List}
+use Rattle.ground.proofs.Truths.{differ}
 use Rattle.answers.specs.declared.Refusal.{Refusal}
 use Rattle.answers.specs.declared.Answer.{Answer}
 use Rattle.answers.specs.declared.Verdict.{Verdict}
-use Rattle.answers.specs.Given.{Given, refuses, Delivers, Answers}
+use Rattle.answers.specs.Given.{Given, gives, refuses, Delivers, Answers}
 use Rattle.answers.proofs.Given.{delivers-refusal, delivers-as, answers-refusal, answers-by}
 use Rattle.shims.specs.declared.Models.{Models}
 use Rattle.shims.specs.declared.Opening.{Opening}
@@ -36,6 +37,29 @@ module _ {o p : Opening} (is : o ≡ p) (More : Models → Given → Type 0) whe
   pub given-accepted : {out after : List ℕ} {r : Answer} → o .verdict ≡ Verdict.Accepted → Answers (More (o .models)) out r after
       → Answers (GivenOnOpened p More) out r after
   given-accepted e a = answers-by (λ g h. on-verdict g e h) a
+
+-- a call that gives bytes has opened, and gives them for the models
+pub opened-gives : (o : Opening) (more : Models → Given) {bytes : List ℕ} {fences state : ℕ} → onOpened o more ≡ gives bytes fences state
+    → (o .verdict ≡ Verdict.Accepted) × (more (o .models) ≡ gives bytes fences state)
+opened-gives o more {bytes} {fences} {state} = by (o .verdict) refl
+  where
+    by : (v : Verdict) → o .verdict ≡ v → unlessRefused v (more (o .models)) ≡ gives bytes fences state
+        → (o .verdict ≡ Verdict.Accepted) × (more (o .models) ≡ gives bytes fences state)
+    by Verdict.Accepted e h = (e, h)
+    by (Verdict.Refused why) e h = differ (cc)
+
+pub given-opened : (o : Opening) (More : Models → Given → Type 0) (bytes : List ℕ) (fences state : ℕ)
+    → GivenOnOpened o More (gives bytes fences state) → (o .verdict ≡ Verdict.Accepted) × More (o .models) (gives bytes fences state)
+given-opened o More bytes fences state = by (o .verdict) refl
+  where
+    by : (v : Verdict) → o .verdict ≡ v → GivenUnless v (More (o .models)) (gives bytes fences state)
+        → (o .verdict ≡ Verdict.Accepted) × More (o .models) (gives bytes fences state)
+    by Verdict.Accepted e h = (e, h)
+    by (Verdict.Refused why) e h = differ (cc)
+
+-- and one that has opened gives what it gives for the models
+pub on-accepted : (o : Opening) (more : Models → Given) → o .verdict ≡ Verdict.Accepted → onOpened o more ≡ more (o .models)
+on-accepted o more e = ap (λ (v : Verdict). unlessRefused v (more (o .models))) e
 
 -- One thing alone is given, where one thing alone is given for the models.
 pub given-one : (o : Opening) (More : Models → Given → Type 0) → ((m : Models) (g h : Given) → More m g → More m h → g ≡ h)

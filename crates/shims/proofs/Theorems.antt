@@ -1,9 +1,7 @@
 -- What an opening comes to: its stages are gone through one by one, and where all go on the texts were read as its models. Assumes nothing.
-use Prim.Native.Nat.{ℕ, _≤_}
-use mathlib.Core.Path.{_≡_, refl, ap, subst, _∙_}
+use Prim.Native.Nat.{ℕ}
+use mathlib.Core.Path.{_≡_, refl, ap, _∙_}
 use mathlib.Core.List.{List}
-use native.Mathlib.Omega.{arith}
-use lib.ListN.{length, length-take}
 use Rattle.ground.proofs.Truths.{differ}
 use Rattle.answers.specs.declared.Verdict.{Verdict}
 use Rattle.rule.specs.declared.way.Way.{Way}
@@ -11,12 +9,10 @@ use Rattle.rule.specs.Rule.{wayNumber}
 use Rattle.models.specs.declared.model.Model.{Model}
 use Rattle.models.specs.declared.model.Reading.{Reading}
 use Rattle.models.specs.Reading.{reading}
-use Rattle.models.proofs.Words.{told}
-use Rattle.models.specs.Told.{accepting, Told, over, departs, repeated, accepted}
+use Rattle.models.specs.Told.{accepting}
 use Rattle.shims.specs.declared.WayRead.{WayRead}
 use Rattle.shims.specs.declared.Models.{Models}
 use Rattle.shims.specs.declared.Opening.{Opening}
-use Rattle.shims.specs.Models.{modelOf}
 use Rattle.shims.specs.Opening.{wayOf, opening, onVerdict, onReading, onTarget, openedBy, Opens}
 
 -- Reading the number that is written for a way gives the way back.
@@ -60,17 +56,3 @@ opens-so {read} {upstream} {target} {models} o =
   where
     with-target : Model → Opening
     with-target t = opening (record { way = models .way; upstream = models .upstream; target = t })
-
--- A model that was read has at most sixteen fences.
-few : {t : List ℕ} {r : Reading} → Told t r → r .verdict ≡ Verdict.Accepted → r .model .fences ≤ 16
-few (over l) e = differ (cc)
-few (departs l n k) e = differ (cc)
-few (repeated d k l f t s) e = differ (cc)
-few (accepted d l f t s) e = f .few
-
-pub few-read : (text : List ℕ) {m : Model} → reading text ≡ accepting m → m .fences ≤ 16
-few-read text {m} e = few (subst (Told text) e (told text)) refl
-
--- So has it as the rule sees it.
-pub few-fences : (m : Model) → m .fences ≤ 16 → length (modelOf m .fences) ≤ 16
-few-fences m h = omega (arith, length-take (m .fences) (m .tables))
