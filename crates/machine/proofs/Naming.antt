@@ -98,7 +98,9 @@ module _ {key : ℕ → ℕ} {classes pairs links : List ℕ} {count i : ℕ} (x
         numbering = numbering-new (x .numbering) kept (here ∙ h);
         names = λ j l.
             ⊎-elim (λ (r : j < i). rw (kept j r) (old j r)) (λ (e : j ≡ i). rw (e, here, h) (there .new)) (split-last j i l);
-        by-key = by-key-on (λ j l. (λ e. absurd (omega (arith, x .numbering .below j l)), λ e. absurd (absent (at classes j) (x .numbering .below j l) (rw e at (x .names j l)))));
+        by-key = by-key-on (λ j l.
+            let low = x .numbering .below j l in
+            (λ e. absurd (omega (arith, low)), λ e. absurd (absent (at classes j) low (rw e at (x .names j l)))));
       }
     where
       old : (j : ℕ) → j < i → Pair pairs′ (key j) 0 (at classes j)

@@ -32,7 +32,8 @@ use Rattle.machine.specs.declared.machine.Machine.{Machine}
 use Rattle.machine.specs.declared.machine.Outcome.{Outcome}
 use Rattle.machine.proofs.Zeros.{at-most-sixteen}
 use Rattle.machine.proofs.Unique.{too-few}
-use Rattle.machine.proofs.Speaking.{ranAs, spoken-gets, ends-spelt, goes-on, shim-like}
+use Rattle.machine.proofs.Spelling.{ranAs, spoken-gets, ends-spelt}
+use Rattle.machine.proofs.Speaking.{goes-on, shim-like}
 use Rattle.machine.proofs.Counting.{run-accepted, accepted-run, same-state, many-situations, many-states}
 
 -- A shim with the packed tables of each side's fences, of which an operation can name the first sixteen.
@@ -160,7 +161,9 @@ module _ (s : Shim) (ups fences : List ℕ) where
         = pigeonhole (length ws) k (λ i h. reached n (getD ws i [])) (λ i h. ends-within n k c (n .fresh) p (getD ws i []))
         (λ i j h l lt e.
         made .states .first .apart i j lt l
-        (same-state way up target few (getD ws i []) (getD ws j []) (here i h .0) (here j l .0) (here i h .1 .0) (here j l .1 .0) (here i h .1 .1) (here j l .1 .1) .1
+        (same-state way up target few (getD ws i []) (getD ws j []) (here i h .0) (here j l .0) (here i h .1 .0) (here j l .1 .0)
+        (here i h .1 .1)
+        (here j l .1 .1) .1
         (λ y r.
         sym (goes-on way up target n like (getD ws i []) (here i h .0) (here i h .1 .0) (here i h .1 .1) y r)
         ∙ ap (λ (s : ℕ). spoken n s y) e

@@ -1,3 +1,4 @@
+-- `store` meets its contract: the word is that of the output and of the place that the next situation was given. Assumes nothing.
 use mathlib.Core.Path.{refl}
 use native.Mathlib.Omega.{arith}
 use borrow.Author.Needs.{needs}
