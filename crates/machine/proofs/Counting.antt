@@ -56,7 +56,7 @@ module _ (way : Way) (up target : Model) (few : length (target .fences) ≤ 16) 
           (λ x k. shim-onward v h out e x k ∙ s x k ∙ sym (shim-onward w l out′ f x k)),
     )
 
-    pub same-situated : (reached (shim way up target) v ≡ reached (shim way up target) w)
+    same-situated : (reached (shim way up target) v ≡ reached (shim way up target) w)
         ↔ SameSituation up target (operations v) out (operations w) out′
     same-situated =
         let p = reached-situation way up target v h out e in

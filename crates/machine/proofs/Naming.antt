@@ -36,7 +36,7 @@ empty-index {pairs} {links} x cleared e =
       next = λ p h. absurd (omega arith);
     }
 
-pub naming-start : {pairs links : List ℕ} (key : ℕ → ℕ) (classes : List ℕ) → length classes ≡ capacity → Scratch pairs links
+naming-start : {pairs links : List ℕ} (key : ℕ → ℕ) (classes : List ℕ) → length classes ≡ capacity → Scratch pairs links
     → (cleared : List ℕ) → cleared ≡ replicate (length links) 0 → Naming key classes pairs cleared 0 0
 naming-start key classes r x cleared e =
     record {
@@ -110,7 +110,7 @@ module _ {key : ℕ → ℕ} {classes pairs links : List ℕ} {count i : ℕ} (x
           (o .0 ∙ p .0, o .1 ∙ p .1)
 
 -- the next thing, placed by its key
-pub naming-next : {key : ℕ → ℕ} {classes pairs links : List ℕ} {count i : ℕ} → Naming key classes pairs links count i
+naming-next : {key : ℕ → ℕ} {classes pairs links : List ℕ} {count i : ℕ} → Naming key classes pairs links count i
     → i < capacity → count ≤ 255 → {n : ℕ} → n ≡ key i → {pairs′ links′ : List ℕ} {q : ℕ}
     → Placed pairs count n 0 pairs′ links′ q
     → Naming key (set classes i q) pairs′ links′ (max count (q + 1)) (i + 1)

@@ -23,7 +23,7 @@ use Rattle.machine.specs.Spoken.{Letters, operations, puts, spelt, spell
 use Rattle.machine.proofs.Spelling.{undone}
 use Rattle.machine.proofs.Letters.{shim-step, choice-low}
 
-pub letters-append : (n : ℕ) (v x : List ℕ) → Letters n v → Letters n x → Letters n (v ++ x)
+letters-append : (n : ℕ) (v x : List ℕ) → Letters n v → Letters n x → Letters n (v ++ x)
 letters-append n [] x h l = l
 letters-append n (a ∷ v) x h l = (h .0, letters-append n v x (h .1) l)
 
@@ -35,7 +35,7 @@ operations-length : (v : List ℕ) → length (operations v) ≡ length v
 operations-length [] = refl
 operations-length (a ∷ v) = ap suc (operations-length v)
 
-pub follows-cancel : (n : ℕ) (out : Stream) (x y : Ran) → follows n out x ≡ follows n out y → x ≡ y
+follows-cancel : (n : ℕ) (out : Stream) (x y : Ran) → follows n out x ≡ follows n out y → x ≡ y
 follows-cancel n out (done a) (done b) e = ap done (append-cancel-left out a b (cc))
 follows-cancel n out (done a) (stopped q) e = absurd (undone (sym e))
 follows-cancel n out (stopped p) (done b) e = absurd (undone e)
@@ -48,7 +48,7 @@ behind-then put n (done out) (done more) = ap done (sym (append-assoc put out mo
 behind-then put n (done out) (stopped p) = ap stopped (sym (suc-add n p))
 
 -- the run of a longer stream
-pub spoken-append : {S : Type 0} (m : Machine S Stream) (s : S) (v x : List ℕ)
+spoken-append : {S : Type 0} (m : Machine S Stream) (s : S) (v x : List ℕ)
     → spoken m s (v ++ x) ≡ then (length v) (spoken m s v) (λ (out : Stream). spoken m (ends m s v) x)
 spoken-append m s [] x = nothing (spoken m s x)
   where
@@ -82,7 +82,7 @@ module _ (way : Way) (up target : Model) where
     fenced a g h l = rw (lt-ltb a 4 h, ne-eqb g 255 (λ e. omega arith)) refl
 
     -- the rule's machine gives the rule's run by situations
-    pub shim-steps : (s : Situation) (w : List ℕ) → Letters (lettersOf up) w
+    shim-steps : (s : Situation) (w : List ℕ) → Letters (lettersOf up) w
         → spoken (spelling (shim way up target)) s w ≡ steps way up target s (operations w)
     unfolding steps
     shim-steps s [] h = refl

@@ -79,7 +79,7 @@ module _ {S : Type 0} (m : Machine S ℕ) where
 
   -- two situations that every stream of letters gets the same run from are the same state, where the fence byte is told by what is put out
   module _ (apart : (a o p : ℕ) (s t u v : S) → m .step s a ≡ taken o u → m .step t a ≡ taken p v → puts a o ≡ puts a p → o ≡ p) where
-    pub alike-gets : (w : List ℕ) (s t : S)
+    alike-gets : (w : List ℕ) (s t : S)
         → ((x : List ℕ) → Letters (m .letters) x → spoken (spelling m) s x ≡ spoken (spelling m) t x) → gets m s w ≡ gets m t w
     alike-gets [] s t h = refl
     alike-gets (a ∷ w) s t h =

@@ -45,7 +45,7 @@ module _ {k : ℕ} {class finer : ℕ → ℕ} {n o : ℕ} (x : Numbering k clas
       omega arith
 
   -- finer classes are no fewer
-  pub finer-more : n ≤ o
+  finer-more : n ≤ o
   finer-more = look n refl
     where
       look : (l : ℕ) → n ≡ l → l ≤ o
@@ -55,7 +55,7 @@ module _ {k : ℕ} {class finer : ℕ → ℕ} {n o : ℕ} (x : Numbering k clas
           omega (arith, top, y .below (x .firsts (0 + l)) (x .first (0 + l) (omega arith) .0))
 
   -- and where they are as many, they are the same
-  pub finer-same : n ≡ o → (i : ℕ) → i < k → finer i ≡ class i
+  finer-same : n ≡ o → (i : ℕ) → i < k → finer i ≡ class i
   finer-same e i h =
       let r : ℕ = finer i in
       let low : r < o = y .below i h in

@@ -37,7 +37,7 @@ module _ {S O : Type 0} (m : Machine S O) where
   same-eq {s} {t} e = rw e (same-refl t)
 
   -- what follows an accepted beginning is the run from where the beginning leads
-  pub accepted-append : (s : S) (v w : List ℕ) → AcceptedFrom m s v → isOutput (gets m s (v ++ w)) ≡ isOutput (gets m (ends m s v) w)
+  accepted-append : (s : S) (v w : List ℕ) → AcceptedFrom m s v → isOutput (gets m s (v ++ w)) ≡ isOutput (gets m (ends m s v) w)
   accepted-append s [] w h = refl
   accepted-append s (a ∷ v) w h = step (λ t. accepted-append t v w) (m .step s a) h
     where
@@ -47,7 +47,7 @@ module _ {S O : Type 0} (m : Machine S O) where
       step ih refused h = absurd h
       step ih (taken o t) h = isOutput-preceded o (gets m t (v ++ w)) ∙ ih t (rw isOutput-preceded at h)
 
-  pub ends-append : (s : S) (v w : List ℕ) → AcceptedFrom m s v → ends m s (v ++ w) ≡ ends m (ends m s v) w
+  ends-append : (s : S) (v w : List ℕ) → AcceptedFrom m s v → ends m s (v ++ w) ≡ ends m (ends m s v) w
   ends-append s [] w h = refl
   ends-append s (a ∷ v) w h = step (λ t. ends-append t v w) (m .step s a) h
     where
