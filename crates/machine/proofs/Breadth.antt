@@ -112,11 +112,14 @@ module _ {s : Shim} {ups fences pairs links table : List ℕ} {count i a : ℕ} 
   notable e = record { byte = λ o next f. output-byte o (output o next (sym (ap meant f) ∙ e)) }
 
   -- once it is noted, the next candidate's turn has come
-  pub candidate-noted : {y : Answered} → Gives y → {pairs′ links′ table′ : List ℕ} {r : ℕ} → Noted pairs links table count i a y pairs′ links′ table′ r
+  pub candidate-noted : {y : Answered} → Gives y → {pairs′ links′ table′ : List ℕ} {r : ℕ}
+      → Noted pairs links table count i a y pairs′ links′ table′ r
       → Onward (shimOf s ups fences) count pairs′ links′ table′ i (a + 1) r
   candidate-noted e (passed {o} {next} f z) =
       let given : Gives (Answered.Taken o next) = sym (ap meant f) ∙ e in
-      explored-stored (x .explored) (x .here) (x .letter) (omega (arith, x .few .few-ups)) (step (Answered.Taken o next) given) (output o next given) z
+      explored-stored (x .explored) (x .here) (x .letter) (omega (arith, x .few .few-ups)) (step (Answered.Taken o next) given)
+      (output o next given)
+      z
   candidate-noted e (barred f same-pairs same-links word same-count) =
       rw (same-pairs, same-links, word, same-count)
       (onward (omega arith) (x .explored .index .fits)

@@ -15,12 +15,14 @@ use Rattle.mealy.specs.Arrivals.{More}
 use Rattle.machine.specs.Shim.{lettersOf, shim}
 use Rattle.machine.specs.Spoken.{Letters, operations, spelling, spoken}
 use Rattle.machine.specs.Counted.{SameSituation, SameState, MoreThan, ManyStates}
-use Rattle.machine.proofs.Speaking.{spoken-gets, ranAs, ends-spelt, done-accepted, accepted-done, accepted-letters, alike-same, goes-on, shim-like}
+use Rattle.machine.proofs.Spelling.{spoken-gets, ranAs, ends-spelt, done-accepted, accepted-done, accepted-letters, alike-same}
+use Rattle.machine.proofs.Speaking.{goes-on, shim-like}
 use Rattle.machine.proofs.Situated.{reached-situation, puts-apart}
 
 module _ (way : Way) (up target : Model) (few : length (target .fences) ≤ 16) where
   -- the streams that the rule accepts are those that its machine accepts
-  pub run-accepted : (w : List ℕ) → Letters (lettersOf up) w → (out : Stream) → run way up target (operations w) ≡ done out → Accepted (shim way up target) w
+  pub run-accepted : (w : List ℕ) → Letters (lettersOf up) w → (out : Stream) → run way up target (operations w) ≡ done out
+      → Accepted (shim way up target) w
   run-accepted w h out e = done-accepted (shim way up target) _ w out (shim-like way up target few w h ∙ e)
 
   pub accepted-run : (w : List ℕ) → Accepted (shim way up target) w
@@ -30,7 +32,7 @@ module _ (way : Way) (up target : Model) (few : length (target .fences) ≤ 16) 
       let o = accepted-done (shim way up target) _ w g in
       (h, (o .0, sym (shim-like way up target few w h) ∙ o .1))
 
-  -- what is told from where an accepted stream leads is the stream's continuation
+  -- the run from where an accepted stream leads is the stream's continuation
   shim-onward : (v : List ℕ) → Letters (lettersOf up) v → (out : Stream) → run way up target (operations v) ≡ done out
       → (x : List ℕ) → Letters (lettersOf up) x
       → spoken (spelling (shim way up target)) (reached (shim way up target) v) x ≡ onward way up target (operations v) out (operations x)
@@ -54,7 +56,7 @@ module _ (way : Way) (up target : Model) (few : length (target .fences) ≤ 16) 
           (λ x k. shim-onward v h out e x k ∙ s x k ∙ sym (shim-onward w l out′ f x k)),
     )
 
-    pub same-situated : (reached (shim way up target) v ≡ reached (shim way up target) w)
+    same-situated : (reached (shim way up target) v ≡ reached (shim way up target) w)
         ↔ SameSituation up target (operations v) out (operations w) out′
     same-situated =
         let p = reached-situation way up target v h out e in
@@ -76,9 +78,10 @@ module _ (way : Way) (up target : Model) (few : length (target .fences) ≤ 16) 
             letters = λ i h. accepted-run (getD (a .streams) i []) (a .accepted i h) .0;
             accepted = λ i h. accepted-run (getD (a .streams) i []) (a .accepted i h) .1;
             apart = λ i j h l out out′ e f r.
-                a .apart i j h l
-                (tie (getD (a .streams) i []) (getD (a .streams) j [])
-                (accepted-run (getD (a .streams) i []) (a .accepted i (omega arith)) .0) (accepted-run (getD (a .streams) j []) (a .accepted j l) .0) out out′ e f .1 r);
+                let v = getD (a .streams) i [] in
+                let w = getD (a .streams) j [] in
+                let k = accepted-run v (a .accepted i (omega arith)) .0 in
+                a .apart i j h l (tie v w k (accepted-run w (a .accepted j l) .0) out out′ e f .1 r);
           },
       λ b.
           record {
@@ -87,8 +90,10 @@ module _ (way : Way) (up target : Model) (few : length (target .fences) ≤ 16) 
             accepted = λ i h. run-accepted (getD (b .streams) i []) (b .letters i h) _ (b .accepted i h .1);
             apart = λ i j h l r.
                 let k : i < length (b .streams) = omega arith in
-                b .apart i j h l _ _ (b .accepted i k .1) (b .accepted j l .1)
-                (tie (getD (b .streams) i []) (getD (b .streams) j []) (b .letters i k) (b .letters j l) _ _ (b .accepted i k .1) (b .accepted j l .1) .0 r);
+                let e = b .accepted i k in
+                let f = b .accepted j l in
+                b .apart i j h l _ _ (e .1) (f .1)
+                (tie (getD (b .streams) i []) (getD (b .streams) j []) (b .letters i k) (b .letters j l) _ _ (e .1) (f .1) .0 r);
           },
     )
 

@@ -26,7 +26,7 @@ use Rattle.machine.proofs.Keys.{word-taken}
 use Rattle.machine.proofs.Naming.{placed-low}
 
 -- the word of an answer
-pub encoded : (o q w : ℕ) → q < capacity → w ≡ (o + 1) * 4096 + q → answer w ≡ taken o q
+encoded : (o q w : ℕ) → q < capacity → w ≡ (o + 1) * 4096 + q → answer w ≡ taken o q
 encoded o q w h e = word-taken w (omega arith) ∙ ap₂ taken (omega arith) (omega arith)
 
 pub output-byte : (o : ℕ) → Output o → o < 256
@@ -186,7 +186,7 @@ module _ {m : Machine Situation ℕ} {pairs links table : List ℕ} {count i a :
             ∙ ap (arrival m streams′) (x .size)
 
     -- the pair of the next situation is placed
-    pub explored-taken : {pairs′ links′ : List ℕ} {q : ℕ} → PlacedAt pairs count t pairs′ links′ q
+    explored-taken : {pairs′ links′ : List ℕ} {q : ℕ} → PlacedAt pairs count t pairs′ links′ q
         → (q ≡ capacity → ⊥) → {w : ℕ} → w ≡ (o + 1) * 4096 + q → {r : ℕ} → r ≡ max count (q + 1)
         → Explored m pairs′ links′ (set table (i * stride + a) w) r i (a + 1)
     explored-taken {q = q} (known h there same y) room {w} word {r} e =
@@ -197,7 +197,7 @@ module _ {m : Machine Situation ℕ} {pairs links table : List ℕ} {count i a :
         rw one (new-place w (omega arith) more absent pushed)
     explored-taken (full h absent size same) room word e = absurd (room (h ∙ size))
 
-    pub explored-beyond : {pairs′ links′ : List ℕ} {q : ℕ} → PlacedAt pairs count t pairs′ links′ q
+    explored-beyond : {pairs′ links′ : List ℕ} {q : ℕ} → PlacedAt pairs count t pairs′ links′ q
         → q ≡ capacity → More m _≡_ capacity
     explored-beyond (known h there same y) e = absurd (omega (arith, x .index .fits))
     explored-beyond (added h absent more pushed) e = absurd (omega arith)

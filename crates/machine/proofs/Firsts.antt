@@ -22,7 +22,8 @@ pub record Writing {k : ℕ} {class : ℕ → ℕ} {n : ℕ} (x : Numbering k cl
 
 -- one row more
 rows-more : {k : ℕ} {class : ℕ → ℕ} {n : ℕ} (x : Numbering k class n) (f : ℕ → ℕ → ℕ) {rows rows′ rows″ : List ℕ} {q i : ℕ}
-    → RowsWritten rows q (λ p. f (x .firsts p)) rows′ → RowWritten rows′ q (f i) stride rows″ → x .firsts q ≡ i → RowsWritten rows (q + 1) (λ p. f (x .firsts p)) rows″
+    → RowsWritten rows q (λ p. f (x .firsts p)) rows′ → RowWritten rows′ q (f i) stride rows″ → x .firsts q ≡ i
+    → RowsWritten rows (q + 1) (λ p. f (x .firsts p)) rows″
 rows-more x f {q = q} w y e =
     record {
       size = y .size ∙ w .size;

@@ -41,8 +41,7 @@ choice-low way fences p g e = look (atLeast none p) refl
         let z : _≡_ {A = ℕ} 0 1 = cc in
         omega arith
     look false h =
-        takes-low way (serves fences p) (length fences) g
-        (pick-takes (serves fences p) way (length fences) g (sym (choice-pick way fences p h) ∙ e))
+        let takes = pick-takes (serves fences p) way (length fences) g (sym (choice-pick way fences p h) ∙ e) in takes-low way _ _ g takes
 
 -- an output is the number of one of the fences, or none
 pub letter-fence : (way : Way) (up target : Model) (s : Situation) (a o : ℕ) (t : Situation) → letterAnswer way up target s a ≡ taken o t

@@ -1,4 +1,5 @@
 pub mod Links
+pub mod Finding
 pub mod Filled
 pub mod Naming
 pub mod Keys
@@ -12,6 +13,7 @@ pub mod Finish
 pub mod Zeros
 pub mod Stages
 pub mod Unique
+pub mod Spelling
 pub mod Speaking
 pub mod Situated
 pub mod Counting

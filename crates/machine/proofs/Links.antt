@@ -1,74 +1,17 @@
--- The index: how a search goes down its chain, and how one pair more is linked in. Assumes nothing.
+-- How one pair more is linked into the index. Assumes nothing.
 use Prim.Native.Nat.{ℕ, _+_, _-_, _*_, _≤_, _<_}
-use mathlib.Core.Path.{_≡_, refl, sym, _∙_, ap, ap₂}
+use mathlib.Core.Path.{_≡_, sym, _∙_, ap, ap₂}
 use mathlib.Core.Logic.{⊎-elim}
 use mathlib.Core.List.{List}
 use native.Mathlib.Omega.{arith}
 use native.Mathlib.Decide.{ℕ-discrete}
 use lib.ListN.{getD, set, length-set}
 use lib.Seq.{getD-set-same, getD-set-other}
-use Rattle.ground.specs.declared.Found.{Found}
 use Rattle.mealy.proofs.Numbers.{split-last}
-use Rattle.machine.specs.inner.Index.{capacity, bucketOf, needAt, lowAt, bucketAt, headAt, nextAt, Link, Index, Pair, Absent, FoundAt, there, nowhere, Pushed, Placed, known}
+use Rattle.machine.specs.inner.Index.{capacity, bucketOf, needAt, lowAt, bucketAt, headAt, nextAt, Link, Index, Pair, Pushed}
 
--- a search at a link: the pair stands at no place above it
-pub record Seeking (pairs links : List ℕ) (count need low link : ℕ) : Type 0 where
-  pub index : Index pairs links count
-  pub within : link ≤ count
-  pub own : (p : ℕ) → link ≡ p + 1 → bucketAt pairs p ≡ bucketOf need low
-  pub below : (p : ℕ) → p < count → Pair pairs need low p → p < link
-
-same-bucket : (pairs : List ℕ) (need low p : ℕ) → Pair pairs need low p → bucketAt pairs p ≡ bucketOf need low
+pub same-bucket : (pairs : List ℕ) (need low p : ℕ) → Pair pairs need low p → bucketAt pairs p ≡ bucketOf need low
 same-bucket pairs need low p h = ap₂ bucketOf (h .0) (h .1)
-
-pub seek-start : {pairs links : List ℕ} {count need low b link : ℕ} → Index pairs links count → (b ≡ bucketOf need low) × (b < capacity)
-    → link ≡ getD links b 0 → Seeking pairs links count need low link
-seek-start {pairs} {links} {count} {need} {low} {b} {link} x h e =
-    let l = x .head b (h .1) in
-    record {
-      index = x;
-      within = rw e (l .within);
-      own = λ p d. l .own p (sym e ∙ d) ∙ h .0;
-      below = λ p q r. rw e (l .last p q (same-bucket pairs need low p r ∙ sym (h .0)));
-    }
-
-pub seek-next : {pairs links : List ℕ} {count need low link : ℕ} → Seeking pairs links count need low link
-    → (p next : ℕ) → (link ≡ 0 → ⊥) → p ≡ link - 1 → (Pair pairs need low p → ⊥) → next ≡ nextAt links p
-    → Seeking pairs links count need low next
-seek-next {pairs} {links} {count} {need} {low} {link} x p next more at unlike e =
-    let l = x .index .next p (omega (arith, x .within, more)) in
-    let d : link ≡ p + 1 = omega (arith, more) in
-    let here : bucketAt pairs p ≡ bucketOf need low = x .own p d in
-    record {
-      index = x .index;
-      within = omega (arith, l .within, x .within);
-      own = λ q f. l .own q (sym e ∙ f) ∙ here;
-      below = λ q h r.
-          let here-or-below : q < p + 1 = rw d at (x .below q h r) in
-          rw e (l .last q (other q r here-or-below) (same-bucket pairs need low q r ∙ sym here));
-    }
-  where
-    other : (q : ℕ) → Pair pairs need low q → q < p + 1 → q < p
-    other q r h = ⊎-elim (λ l. l) (λ (f : q ≡ p). absurd (unlike (rw f at r))) (split-last q p h)
-
-pub seek-end : {pairs links : List ℕ} {count need low : ℕ} → Seeking pairs links count need low 0 → Absent pairs count need low
-seek-end x p h r = omega (arith, x .below p h r)
-
--- what a search has found, and what it has not
-pub found-known : {pairs links : List ℕ} {count need low : ℕ} {r : Found} {p : ℕ} → FoundAt pairs count need low r → r ≡ Found.At p
-    → Index pairs links count → Placed pairs count need low pairs links p
-found-known {r = r} {p = p} (there q f h here) e x = let one : q ≡ p = cc in known (rw one at h) (rw one at here) refl x
-found-known {r = r} {p = p} (nowhere f absent) e x = let z : _≡_ {A = ℕ} 0 1 = cc in absurd (omega arith)
-
-pub found-absent : {pairs : List ℕ} {count need low : ℕ} {r : Found} → FoundAt pairs count need low r → r ≡ Found.Nowhere
-    → Absent pairs count need low
-found-absent {r = r} (there q f h here) e = let z : _≡_ {A = ℕ} 0 1 = cc in absurd (omega arith)
-found-absent (nowhere f absent) e = absent
-
--- the next link is lower
-pub seek-less : {pairs links : List ℕ} {count need low link : ℕ} → Seeking pairs links count need low link
-    → (p next : ℕ) → (link ≡ 0 → ⊥) → p ≡ link - 1 → next ≡ nextAt links p → next < link
-seek-less x p next more at e = omega (arith, x .index .next p (omega (arith, more, x .within)) .within, more)
 
 -- one pair more: it is the last of its bucket, and linked to the one that was
 module _ {pairs links : List ℕ} {count : ℕ} (x : Index pairs links count) (more : count < capacity) (need low : ℕ) where
@@ -169,7 +112,8 @@ module _ {pairs links : List ℕ} {count : ℕ} (x : Index pairs links count) (m
       }
 
 pub pushed : {pairs links : List ℕ} {count need low b : ℕ} → Index pairs links count → count < capacity → (b ≡ bucketOf need low) × (b < capacity)
-    → Pushed pairs count need low (set (set pairs (count * 2) need) (count * 2 + 1) low) (set (set links (capacity + count) (getD links b 0)) b (count + 1))
+    → Pushed pairs count need low (set (set pairs (count * 2) need) (count * 2 + 1) low)
+    (set (set links (capacity + count) (getD links b 0)) b (count + 1))
 pushed {need = need} {low = low} x more e =
     record {
       new = new-pair x more need low;

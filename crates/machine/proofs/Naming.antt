@@ -36,7 +36,7 @@ empty-index {pairs} {links} x cleared e =
       next = λ p h. absurd (omega arith);
     }
 
-pub naming-start : {pairs links : List ℕ} (key : ℕ → ℕ) (classes : List ℕ) → length classes ≡ capacity → Scratch pairs links
+naming-start : {pairs links : List ℕ} (key : ℕ → ℕ) (classes : List ℕ) → length classes ≡ capacity → Scratch pairs links
     → (cleared : List ℕ) → cleared ≡ replicate (length links) 0 → Naming key classes pairs cleared 0 0
 naming-start key classes r x cleared e =
     record {
@@ -98,7 +98,9 @@ module _ {key : ℕ → ℕ} {classes pairs links : List ℕ} {count i : ℕ} (x
         numbering = numbering-new (x .numbering) kept (here ∙ h);
         names = λ j l.
             ⊎-elim (λ (r : j < i). rw (kept j r) (old j r)) (λ (e : j ≡ i). rw (e, here, h) (there .new)) (split-last j i l);
-        by-key = by-key-on (λ j l. (λ e. absurd (omega (arith, x .numbering .below j l)), λ e. absurd (absent (at classes j) (x .numbering .below j l) (rw e at (x .names j l)))));
+        by-key = by-key-on (λ j l.
+            let low = x .numbering .below j l in
+            (λ e. absurd (omega (arith, low)), λ e. absurd (absent (at classes j) low (rw e at (x .names j l)))));
       }
     where
       old : (j : ℕ) → j < i → Pair pairs′ (key j) 0 (at classes j)
@@ -108,7 +110,7 @@ module _ {key : ℕ → ℕ} {classes pairs links : List ℕ} {count i : ℕ} (x
           (o .0 ∙ p .0, o .1 ∙ p .1)
 
 -- the next thing, placed by its key
-pub naming-next : {key : ℕ → ℕ} {classes pairs links : List ℕ} {count i : ℕ} → Naming key classes pairs links count i
+naming-next : {key : ℕ → ℕ} {classes pairs links : List ℕ} {count i : ℕ} → Naming key classes pairs links count i
     → i < capacity → count ≤ 255 → {n : ℕ} → n ≡ key i → {pairs′ links′ : List ℕ} {q : ℕ}
     → Placed pairs count n 0 pairs′ links′ q
     → Naming key (set classes i q) pairs′ links′ (max count (q + 1)) (i + 1)

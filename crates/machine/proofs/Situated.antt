@@ -26,7 +26,7 @@ use Rattle.machine.specs.Shim.{lettersOf, stepAnswer, letterAnswer, shim
 use Rattle.machine.specs.inner.Explore.{Output}
 use Rattle.machine.specs.Spoken.{Letters, operations, puts}
 use Rattle.machine.proofs.Letters.{shim-step, letter-output}
-use Rattle.machine.proofs.Speaking.{undone}
+use Rattle.machine.proofs.Spelling.{undone}
 
 behind-done : (put out : Stream) (x : Ran) → behind put x ≡ done out → (more : Stream) × (x ≡ done more) × (out ≡ put ++ more)
 behind-done put out (done more) e = (more, refl, (cc))
@@ -38,7 +38,8 @@ module _ (way : Way) (up target : Model) where
       → ((more : Stream) → output′ ++ more ≡ output ++ (put ++ more))
       → situation up target (input ++ op ∷ []) output′ ≡ t
       → ((more : Stream) → onward way up target (input ++ op ∷ []) output′ (operations w) ≡ done more
-      → ends (shim way up target) (situation up target (input ++ op ∷ []) output′) w ≡ situation up target (input ++ op ∷ [] ++ operations w) (output′ ++ more))
+      → ends (shim way up target) (situation up target (input ++ op ∷ []) output′) w
+      ≡ situation up target (input ++ op ∷ [] ++ operations w) (output′ ++ more))
       → behind put (onward way up target (input ++ op ∷ []) output′ (operations w)) ≡ done out
       → ends (shim way up target) t w ≡ situation up target (input ++ op ∷ operations w) (output ++ out)
   step-on op put input output output′ w s t out grows e ih h =
@@ -61,14 +62,17 @@ module _ (way : Way) (up target : Model) where
       S : Situation
       S = situation up target input output
 
+      op : Stream
+      op = access (kindOf a)
+
       Rest : Type 0
       Rest =
           (i o : Stream) → accesses o ≡ accesses i → (more : Stream) → onward way up target i o (operations w) ≡ done more
           → ends (shim way up target) (situation up target i o) w ≡ situation up target (i ++ operations w) (o ++ more)
 
       at : Rest → (c : Choice) → choiceOf way (target .fences) (pending (kindOf a) S) ≡ c
-          → goes-on (behind (access (kindOf a)) (onward way up target (input ++ access (kindOf a)) (output ++ access (kindOf a)) (operations w)))
-          (λ (g : ℕ). behind (fence g ++ access (kindOf a)) (onward way up target (input ++ access (kindOf a)) (output ++ (fence g ++ access (kindOf a))) (operations w))) c
+          → goes-on (behind op (onward way up target (input ++ op) (output ++ op) (operations w)))
+          (λ (g : ℕ). behind (fence g ++ op) (onward way up target (input ++ op) (output ++ (fence g ++ op)) (operations w))) c
           ≡ done out
           → go (stepAnswer (stepOf (up .ppo) target S (kindOf a) c)) S (λ t. ends (shim way up target) t w)
           ≡ situation up target (input ++ Operation.Access (kindOf a) ∷ operations w) (output ++ out)
@@ -85,7 +89,8 @@ module _ (way : Way) (up target : Model) where
           ∙ joins-step up target input (output ++ fence g) (same-fence input output g same) (kindOf a)
           ∙ ap (joins (up .ppo) (target .ppo) (kindOf a)) (offers-step up target input output same g))
           (ih (input ++ access (kindOf a)) (output ++ (fence g ++ access (kindOf a)))
-          (ap accesses (sym (append-assoc output (fence g) (access (kindOf a)))) ∙ same-access input (output ++ fence g) (kindOf a) (same-fence input output g same)))
+          (ap accesses (sym (append-assoc output (fence g) (access (kindOf a))))
+          ∙ same-access input (output ++ fence g) (kindOf a) (same-fence input output g same)))
           f
       at ih Choice.Refused r f = absurd (undone f)
 

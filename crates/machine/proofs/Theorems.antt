@@ -1,12 +1,13 @@
 -- The theorems about the machine that is generated, for any two models and any way, as a reader wants to find them: stated on the rule's own runs,
 -- `run` and `onward`. A stream of letters is a stream of operations by the alphabet: 0 l, 1 L, 2 s, 3 S, 4 upwards the upstream fences. Assumes
 -- nothing.
-use Prim.Native.Nat.{ℕ, _+_, _≤_, _<_}
+use Prim.Native.Nat.{ℕ, _≤_, _<_}
 use mathlib.Core.Path.{_≡_, refl, sym, _∙_, ap, subst}
 use mathlib.Core.Logic.{_↔_}
 use mathlib.Core.List.{List, []}
 use native.Mathlib.Omega.{arith}
 use lib.ListN.{length, getD}
+use Rattle.operations.specs.Alphabet.{lettersWith}
 use Rattle.rule.specs.declared.situation.Situation.{Situation}
 use Rattle.rule.specs.declared.way.Way.{Way}
 use Rattle.rule.specs.declared.way.Shim.{Shim}
@@ -32,7 +33,8 @@ use Rattle.machine.specs.declared.machine.Machine.{Machine}
 use Rattle.machine.specs.declared.machine.Outcome.{Outcome}
 use Rattle.machine.proofs.Zeros.{at-most-sixteen}
 use Rattle.machine.proofs.Unique.{too-few}
-use Rattle.machine.proofs.Speaking.{ranAs, spoken-gets, ends-spelt, goes-on, shim-like}
+use Rattle.machine.proofs.Spelling.{ranAs, spoken-gets, ends-spelt}
+use Rattle.machine.proofs.Speaking.{goes-on, shim-like}
 use Rattle.machine.proofs.Counting.{run-accepted, accepted-run, same-state, many-situations, many-states}
 
 -- A shim with the packed tables of each side's fences, of which an operation can name the first sixteen.
@@ -55,11 +57,11 @@ module _ (s : Shim) (ups fences : List ℕ) where
 
   module _ (rows : List ℕ) (x : Machine) (rows′ : List ℕ) (made : Generated s ups fences rows (Outcome.Made x) rows′) where
     own : Mealy ℕ ℕ
-    own = answering (4 + length (named ups)) rows′
+    own = answering (lettersWith (length (named ups))) rows′
 
     the-same : machineOf x rows′ ≡ spelling own
     unfolding own
-    the-same = ap (λ (n : ℕ). spelling (answering (4 + n) rows′)) (made .its-ups)
+    the-same = ap (λ (n : ℕ). spelling (answering (lettersWith n) rows′)) (made .its-ups)
 
     -- an accepted stream leads to a state, and that is the state of its situation
     lands-at : (v : List ℕ) → Letters (lettersOf up) v → (out : Stream) → run way up target (operations v) ≡ done out
@@ -160,7 +162,9 @@ module _ (s : Shim) (ups fences : List ℕ) where
         = pigeonhole (length ws) k (λ i h. reached n (getD ws i [])) (λ i h. ends-within n k c (n .fresh) p (getD ws i []))
         (λ i j h l lt e.
         made .states .first .apart i j lt l
-        (same-state way up target few (getD ws i []) (getD ws j []) (here i h .0) (here j l .0) (here i h .1 .0) (here j l .1 .0) (here i h .1 .1) (here j l .1 .1) .1
+        (same-state way up target few (getD ws i []) (getD ws j []) (here i h .0) (here j l .0) (here i h .1 .0) (here j l .1 .0)
+        (here i h .1 .1)
+        (here j l .1 .1) .1
         (λ y r.
         sym (goes-on way up target n like (getD ws i []) (here i h .0) (here i h .1 .0) (here i h .1 .1) y r)
         ∙ ap (λ (s : ℕ). spoken n s y) e

@@ -9,7 +9,7 @@ use borrow.Author.Tests.{ne-eqb}
 use lib.ListN.{length}
 use lib.Seq.{ext-getD}
 use Rattle.ground.specs.Bytes.{at}
-use Rattle.operations.specs.Alphabet.{stride}
+use Rattle.operations.specs.Alphabet.{lettersWith, stride}
 use Rattle.rule.specs.declared.situation.Situation.{Situation}
 use Rattle.rule.specs.declared.way.Way.{Way}
 use Rattle.rule.specs.declared.way.Shim.{Shim}
@@ -46,7 +46,7 @@ pub too-few : (m : Mealy Situation ℕ) {k : ℕ} {row : ℕ → ℕ → Answer 
 too-few m d low more =
     not-more m (Same m) (same-states m) 255 (described-at-most m (Same m) (same-states m) d 255 low) more
 
-module _ (m : Mealy Situation ℕ) (way : Way) (ups targets : ℕ) (letters : m .letters ≡ 4 + ups) (few : targets ≤ 16) (rows : List ℕ) where
+module _ (m : Mealy Situation ℕ) (way : Way) (ups targets : ℕ) (letters : m .letters ≡ lettersWith ups) (few : targets ≤ 16) (rows : List ℕ) where
   too-short : {x : Machine} {rows₁ rows₂ : List ℕ} → Making m way ups targets rows x rows₁ → Roomless m rows rows₂ → ⊥
   too-short {x} {rows₁} b c =
       omega (arith, described-unique m (Same m) (same-states m) (b .states) (c .described) .0, b .room, c .short)
@@ -56,9 +56,9 @@ module _ (m : Mealy Situation ℕ) (way : Way) (ups targets : ℕ) (letters : m 
     one = described-unique m (Same m) (same-states m) (b .states) (c .states)
 
     word-one : (q a : ℕ) → q < x .states → a < stride → at rows₁ (q * stride + a) ≡ at rows₂ (q * stride + a)
-    word-one q a h l = look (decLt a (4 + ups))
+    word-one q a h l = look (decLt a (lettersWith ups))
       where
-        look : Dec (a < 4 + ups) → at rows₁ (q * stride + a) ≡ at rows₂ (q * stride + a)
+        look : Dec (a < lettersWith ups) → at rows₁ (q * stride + a) ≡ at rows₂ (q * stride + a)
         look (yes k) =
             let other = c .words q a (rw (one .0) at h) k in
             same-word targets (x .states) _ _ few (b .words q a h k) (rw (← one .0) at other) (one .1 q a h (rw letters k))

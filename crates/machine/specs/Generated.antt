@@ -6,7 +6,7 @@ use mathlib.Core.Logic.{_⊎_}
 use mathlib.Core.List.{List}
 use lib.ListN.{length, take}
 use Rattle.ground.specs.Bytes.{at}
-use Rattle.operations.specs.Alphabet.{stride}
+use Rattle.operations.specs.Alphabet.{lettersWith, stride}
 use Rattle.rule.specs.declared.situation.Situation.{Situation}
 use Rattle.rule.specs.declared.way.Way.{Way}
 use Rattle.rule.specs.declared.way.Shim.{Shim}
@@ -34,8 +34,8 @@ pub record Making (m : Mealy Situation ℕ) (way : Way) (ups targets : ℕ) (row
   pub states : Described m (Same m) (x .states) (answerAt rows′)
   pub size : length rows′ ≡ length rows
   pub room : x .states * stride ≤ length rows
-  pub words : (q a : ℕ) → q < x .states → a < 4 + ups → ProperWord targets (x .states) (at rows′ (q * stride + a))
-  pub absent : (q a : ℕ) → q < x .states → 4 + ups ≤ a → a < stride → at rows′ (q * stride + a) ≡ 0
+  pub words : (q a : ℕ) → q < x .states → a < lettersWith ups → ProperWord targets (x .states) (at rows′ (q * stride + a))
+  pub absent : (q a : ℕ) → q < x .states → lettersWith ups ≤ a → a < stride → at rows′ (q * stride + a) ≡ 0
   pub kept : (p : ℕ) → x .states * stride ≤ p → at rows′ p ≡ at rows p
 
 -- refused: and nothing is written

@@ -94,7 +94,8 @@ pub(crate) fn write_rows<'a>(
     requires { ⌜ Numbering k (at (now classes)) n ⌝ }
     ensures { λ _.
         ⌜ ((x : Numbering k (at (now (classes .entry))) n)
-        → RowsWritten (now (rows .entry)) n (λ q. stateEntry (now (table .entry)) (now (classes .entry)) letters (x .firsts q)) (now (rows .exit))) ⌝ }
+        → RowsWritten (now (rows .entry)) n
+        (λ q. stateEntry (now (table .entry)) (now (classes .entry)) letters (x .firsts q)) (now (rows .exit))) ⌝ }
 {
     let mut q = 0;
     let mut i = 0;

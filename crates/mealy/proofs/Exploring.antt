@@ -235,7 +235,12 @@ module _ {S O : Type 0} (m : Machine S O) where
       → (n : ℕ) → n ≡ length ws → More m _≡_ n
   explore-beyond {ws} {row} {i} {a} x h o t e unseen n size =
       let y = explore-new x h next kept o t e unseen last in
-      record { streams = grown ws (getD ws i [] ▹ a); many = omega (arith, length-more ws (getD ws i [] ▹ a)); accepted = y .accepted; apart = y .apart }
+      record {
+        streams = grown ws (getD ws i [] ▹ a);
+        many = omega (arith, length-more ws (getD ws i [] ▹ a));
+        accepted = y .accepted;
+        apart = y .apart;
+      }
     where
       choose : {j b : ℕ} → Dec (j ≡ i) → Dec (b ≡ a) → Answer O ℕ
       choose {j} {b} (no d) f = row j b

@@ -32,7 +32,7 @@ below-trans (shorter p) (earlier d q) = shorter (omega arith)
 below-trans (earlier e p) (shorter q) = shorter (omega arith)
 below-trans {u} {v} {w} (earlier e p) (earlier d q) = earlier (omega arith) (earlier-trans u v w p q)
 
-pub at-most-below : {u v w : List ℕ} → u ≼ v → v ≺ w → u ≺ w
+at-most-below : {u v w : List ℕ} → u ≼ v → v ≺ w → u ≺ w
 at-most-below {u} {v} {w} (inl p) q = rw p q
 at-most-below (inr p) q = below-trans p q
 

@@ -45,7 +45,7 @@ module _ {k : ℕ} {class finer : ℕ → ℕ} {n o : ℕ} (x : Numbering k clas
       omega arith
 
   -- finer classes are no fewer
-  pub finer-more : n ≤ o
+  finer-more : n ≤ o
   finer-more = look n refl
     where
       look : (l : ℕ) → n ≡ l → l ≤ o
@@ -55,7 +55,7 @@ module _ {k : ℕ} {class finer : ℕ → ℕ} {n o : ℕ} (x : Numbering k clas
           omega (arith, top, y .below (x .firsts (0 + l)) (x .first (0 + l) (omega arith) .0))
 
   -- and where they are as many, they are the same
-  pub finer-same : n ≡ o → (i : ℕ) → i < k → finer i ≡ class i
+  finer-same : n ≡ o → (i : ℕ) → i < k → finer i ≡ class i
   finer-same e i h =
       let r : ℕ = finer i in
       let low : r < o = y .below i h in
@@ -76,7 +76,9 @@ module _ {O : Type 0} {m : Machine ℕ O} {k : ℕ} (closed : Closed m k) where
       look refused e = rw (e, same-refused m a s e)
       look (taken o u) e =
           let to = same-taken m a s e in
-          rw (e, to .1) (ap (taken o) (coarse u (to .0) (closed .stays i a o u (omega arith) e) (closed .stays j a o (to .0) (omega arith) (to .1)) (to .2)))
+          let h : u < k = closed .stays i a o u (omega arith) e in
+          let l : to .0 < k = closed .stays j a o (to .0) (omega arith) (to .1) in
+          rw (e, to .1) (ap (taken o) (coarse u (to .0) h l (to .2)))
 
   classed-alike : {class finer : ℕ → ℕ} → ((i : ℕ) → i < k → finer i ≡ class i) → (i a : ℕ) → i < k
       → classed finer (m .step i a) ≡ classed class (m .step i a)
@@ -100,7 +102,10 @@ module _ {O : Type 0} {m : Machine ℕ O} {k : ℕ} (closed : Closed m k) where
         numbering = y;
         coarse = split-coarse k a (omega arith) (x .coarse) split;
         grown = omega (arith, x .grown, more);
-        stable = λ e b l. ⊎-elim (λ (r : b < a). stable-alike b (alike e) (x .stable (omega (arith, x .grown, more)) b r)) (λ r. here e b r) (split-last b a l);
+        stable = λ e b l.
+            ⊎-elim (λ (r : b < a). stable-alike b (alike e) (x .stable (omega (arith, x .grown, more)) b r))
+            (λ r. here e b r)
+            (split-last b a l);
       }
     where
       fine : (i j : ℕ) → i < k → j < k → finer i ≡ finer j → class i ≡ class j

@@ -4,7 +4,7 @@ use mathlib.Core.Path.{_≡_, refl, sym, _∙_, ap}
 use mathlib.Core.List.{List, [], _∷_, _++_}
 use native.Mathlib.Omega.{arith}
 use lib.Dec.{T}
-use Rattle.mealy.specs.Runs.{Answer, refused, taken, Machine, Got, refusal, output, preceded, getting, gets, go, ends, isOutput, AcceptedFrom, Same}
+use Rattle.mealy.specs.Runs.{Answer, refused, taken, Machine, Got, refusal, output, preceded, get, gets, go, ends, isOutput, AcceptedFrom, Same}
 use Rattle.mealy.specs.Order.{_▹_}
 
 isOutput-preceded : {O : Type 0} (o : O) (x : Got O) → isOutput (preceded o x) ≡ isOutput x
@@ -37,21 +37,22 @@ module _ {S O : Type 0} (m : Machine S O) where
   same-eq {s} {t} e = rw e (same-refl t)
 
   -- what follows an accepted beginning is the run from where the beginning leads
-  pub accepted-append : (s : S) (v w : List ℕ) → AcceptedFrom m s v → isOutput (gets m s (v ++ w)) ≡ isOutput (gets m (ends m s v) w)
+  accepted-append : (s : S) (v w : List ℕ) → AcceptedFrom m s v → isOutput (gets m s (v ++ w)) ≡ isOutput (gets m (ends m s v) w)
   accepted-append s [] w h = refl
   accepted-append s (a ∷ v) w h = step (λ t. accepted-append t v w) (m .step s a) h
     where
       step : ((t : S) → AcceptedFrom m t v → isOutput (gets m t (v ++ w)) ≡ isOutput (gets m (ends m t v) w)) → (x : Answer O S)
-          → T (isOutput (getting x (λ t. gets m t v))) → isOutput (getting x (λ t. gets m t (v ++ w))) ≡ isOutput (gets m (go x s (λ t. ends m t v)) w)
+          → T (isOutput (get x (λ t. gets m t v)))
+          → isOutput (get x (λ t. gets m t (v ++ w))) ≡ isOutput (gets m (go x s (λ t. ends m t v)) w)
       step ih refused h = absurd h
       step ih (taken o t) h = isOutput-preceded o (gets m t (v ++ w)) ∙ ih t (rw isOutput-preceded at h)
 
-  pub ends-append : (s : S) (v w : List ℕ) → AcceptedFrom m s v → ends m s (v ++ w) ≡ ends m (ends m s v) w
+  ends-append : (s : S) (v w : List ℕ) → AcceptedFrom m s v → ends m s (v ++ w) ≡ ends m (ends m s v) w
   ends-append s [] w h = refl
   ends-append s (a ∷ v) w h = step (λ t. ends-append t v w) (m .step s a) h
     where
       step : ((t : S) → AcceptedFrom m t v → ends m t (v ++ w) ≡ ends m (ends m t v) w) → (x : Answer O S)
-          → T (isOutput (getting x (λ t. gets m t v))) → go x s (λ t. ends m t (v ++ w)) ≡ ends m (go x s (λ t. ends m t v)) w
+          → T (isOutput (get x (λ t. gets m t v))) → go x s (λ t. ends m t (v ++ w)) ≡ ends m (go x s (λ t. ends m t v)) w
       step ih refused h = absurd h
       step ih (taken o t) h = ih t (rw isOutput-preceded at h)
 
@@ -67,7 +68,7 @@ module _ {S O : Type 0} (m : Machine S O) where
       → (o : O) × (t : S) × (m .step s a ≡ taken o t) × AcceptedFrom m t w
   first-taken s a w h = look (m .step s a) refl h
     where
-      look : (x : Answer O S) → m .step s a ≡ x → T (isOutput (getting x (λ t. gets m t w)))
+      look : (x : Answer O S) → m .step s a ≡ x → T (isOutput (get x (λ t. gets m t w)))
           → (o : O) × (t : S) × (m .step s a ≡ taken o t) × AcceptedFrom m t w
       look refused e h = absurd h
       look (taken o t) e h = (o, t, e, rw isOutput-preceded at h)

@@ -29,14 +29,14 @@ abbrev pub preceded : {O : Type 0} → O → Got O → Got O
 preceded o (refusal k) = refusal (suc k)
 preceded o (output os) = output (o ∷ os)
 
-abbrev pub getting : {S O : Type 0} → Answer O S → (S → Got O) → Got O
-getting refused rest = refusal 0
-getting (taken o t) rest = preceded o (rest t)
+abbrev pub get : {S O : Type 0} → Answer O S → (S → Got O) → Got O
+get refused rest = refusal 0
+get (taken o t) rest = preceded o (rest t)
 
 -- the run of a stream from a situation
 abbrev pub gets : {S O : Type 0} → Machine S O → S → List ℕ → Got O
 gets m s [] = output []
-gets m s (a ∷ w) = getting (m .step s a) (λ t. gets m t w)
+gets m s (a ∷ w) = get (m .step s a) (λ t. gets m t w)
 
 abbrev pub go : {S O : Type 0} → Answer O S → S → (S → S) → S
 go refused s rest = s

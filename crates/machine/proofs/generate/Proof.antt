@@ -1,3 +1,4 @@
+-- `generate` meets its contract: the fences that an operation can name are sixteen at most, and a table of zeros is unused. Assumes nothing.
 use borrow.Author.Needs.{needs}
 use Rattle.machine.proofs.Stages.{few-named, new-table}
 use Rattle.machine.proofs.generate.Statement.{statement}

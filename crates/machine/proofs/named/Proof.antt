@@ -1,3 +1,4 @@
+-- `named` meets its contract: a list of fewer than sixteen is its own first sixteen. Assumes nothing.
 use mathlib.Core.Path.{sym}
 use native.Mathlib.Omega.{arith}
 use borrow.Author.Needs.{needs}

@@ -1,3 +1,4 @@
+-- `search` meets its contract: what exploring finds is too many situations, or what `sort` is entered with. Assumes nothing.
 use borrow.Author.Needs.{needs}
 use Rattle.machine.proofs.Stages.{survey-crowded, survey-searched}
 use Rattle.machine.proofs.search.Statement.{statement}

@@ -1,3 +1,4 @@
+-- `sort` meets its contract: what refining finds is too many states, or what `write` is entered with. Assumes nothing.
 use borrow.Author.Needs.{needs}
 use Rattle.machine.proofs.Stages.{searched-begun, searched-overfull, searched-sorted}
 use Rattle.machine.proofs.sort.Statement.{statement}

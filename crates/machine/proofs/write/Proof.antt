@@ -1,3 +1,4 @@
+-- `write` meets its contract: rows that do not fit are refused; those that fit describe the states. Assumes nothing.
 use borrow.Author.Needs.{needs}
 use Rattle.machine.proofs.Stages.{sorted-roomless}
 use Rattle.machine.proofs.Finish.{making}

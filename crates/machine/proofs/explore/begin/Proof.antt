@@ -1,3 +1,4 @@
+-- `begin` meets its contract: place 0 of an empty index gets the fresh situation. Assumes nothing.
 use borrow.Author.Needs.{needs}
 use Rattle.machine.proofs.Breadth.{fresh-placed}
 use Rattle.machine.proofs.explore.begin.Statement.{statement}

@@ -1,3 +1,5 @@
+-- `explore` meets its contract: an index of zeros is empty, so what `begin` puts into it is the fresh situation alone, and `explore_all` goes on
+-- from there. Assumes nothing.
 use mathlib.Core.Path.{refl}
 use borrow.Author.Needs.{needs}
 use Rattle.machine.proofs.Breadth.{explored-start}

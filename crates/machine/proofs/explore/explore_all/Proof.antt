@@ -1,3 +1,5 @@
+-- `explore_all` meets its contract: the situations found, with their rows so far, are what the loop keeps; each turn gives one row more, and there
+-- is room for 4,096. Assumes nothing.
 use Prim.Native.Nat.{_-_}
 use borrow.Author.Needs.{needs}
 use Rattle.machine.specs.inner.Index.{capacity}

@@ -1,3 +1,5 @@
+-- `explore_letter` meets its contract: the answer is the step of the rule's machine at the candidate, and noting it brings the next candidate's
+-- turn. Assumes nothing.
 use borrow.Author.Needs.{needs}
 use Rattle.machine.proofs.Breadth.{candidate-slot, notable, candidate-noted}
 use Rattle.machine.proofs.explore.explore_letter.Statement.{statement}

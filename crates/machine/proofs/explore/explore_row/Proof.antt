@@ -1,3 +1,4 @@
+-- `explore_row` meets its contract: the letters below the one at hand have been answered; each turn answers one more. Assumes nothing.
 use Prim.Native.Nat.{_+_, _-_}
 use borrow.Author.Needs.{needs}
 use lib.ListN.{length}

@@ -1,3 +1,4 @@
+-- `note` meets its contract: an answer that is taken is stored, and a refusal is the word 0. Assumes nothing.
 use borrow.Author.Needs.{needs}
 use Rattle.machine.specs.inner.Explore.{passed, barred}
 use Rattle.machine.proofs.Exploration.{notable-byte}

@@ -1,3 +1,4 @@
+-- `store` meets its contract: the word is that of the output and of the place that the next situation was given. Assumes nothing.
 use mathlib.Core.Path.{refl}
 use native.Mathlib.Omega.{arith}
 use borrow.Author.Needs.{needs}
@@ -58,7 +59,10 @@ same-length-5 : tie.Need-same-length-5
 same-length-5 c = search needs
 
 returns-2 : tie.Need-returns-2
-returns-2 c = stored _ (c .before .before .before .before .before .before .place .ensures) (c .before .if1 .left) refl (c .larger .ensures)
+returns-2 c =
+    let test = c .before in
+    let placed = test .before .before .before .before .before .place in
+    stored _ (placed .ensures) (test .if1 .left) refl (c .larger .ensures)
 
 pub store-spec : {M : Type 1} → statement M
 store-spec =

@@ -1,8 +1,9 @@
+-- `find` meets its contract: the pair stands at no place above the cursor, whose links fall. Assumes nothing.
 use mathlib.Core.Path.{refl}
 use native.Mathlib.Omega.{arith}
 use borrow.Author.Needs.{needs}
 use Rattle.machine.specs.inner.Index.{there, nowhere}
-use Rattle.machine.proofs.Links.{Seeking, seek-start, seek-next, seek-end, seek-less}
+use Rattle.machine.proofs.Finding.{Seeking, seek-start, seek-next, seek-end, seek-less}
 use Rattle.machine.proofs.index.find.Statement.{statement}
 use Rattle.machine.proofs.index.find.Tie as tie
 

@@ -1,5 +1,6 @@
+-- `place` meets its contract: what the search finds is the place; what it does not find is absent, and is added. Assumes nothing.
 use borrow.Author.Needs.{needs}
-use Rattle.machine.proofs.Links.{found-known, found-absent}
+use Rattle.machine.proofs.Finding.{found-known, found-absent}
 use Rattle.machine.proofs.index.place.Statement.{statement}
 use Rattle.machine.proofs.index.place.Tie as tie
 

@@ -1,3 +1,4 @@
+-- `push` meets its contract: the pair is the last of its bucket, and linked to the one that was. Assumes nothing.
 use native.Mathlib.Omega.{arith}
 use borrow.Author.Needs.{needs}
 use lib.ListN.{length-set}

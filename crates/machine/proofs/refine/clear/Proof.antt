@@ -1,3 +1,4 @@
+-- `clear` meets its contract: the links below the one at hand are 0. Assumes nothing.
 use Prim.Native.Nat.{_-_, _≤_}
 use mathlib.Core.Path.{_≡_}
 use mathlib.Core.List.{_++_}

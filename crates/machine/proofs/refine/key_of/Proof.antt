@@ -1,3 +1,4 @@
+-- `key_of` meets its contract: the class and what the letter shows are read where they stand. Assumes nothing.
 use borrow.Author.Needs.{needs}
 use Rattle.machine.proofs.refine.key_of.Statement.{statement}
 use Rattle.machine.proofs.refine.key_of.Tie as tie

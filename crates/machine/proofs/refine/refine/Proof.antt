@@ -1,3 +1,5 @@
+-- `refine` meets its contract: the classes are a numbering that parts no same states; a round that leaves their count as it was leaves one state
+-- to each class. Assumes nothing.
 use Prim.Native.Nat.{ℕ, _-_}
 use borrow.Author.Needs.{needs}
 use lib.ListN.{length-replicate}

@@ -1,3 +1,4 @@
+-- `shown` meets its contract: a word below 4,096 is a refusal's, and another is an output and a target. Assumes nothing.
 use native.Mathlib.Omega.{arith}
 use borrow.Author.Needs.{needs}
 use borrow.Author.Tests.{lt-ltb, le-ltb}

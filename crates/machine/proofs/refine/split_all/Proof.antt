@@ -1,3 +1,4 @@
+-- `split_all` meets its contract: the letters below the one at hand have split the classes; each turn splits by one more. Assumes nothing.
 use Prim.Native.Nat.{_-_}
 use borrow.Author.Needs.{needs}
 use Rattle.machine.proofs.Rounds.{Going, going-start, going-next, going-crowd, going-end, scratch-kept}

@@ -1,3 +1,5 @@
+-- `split_by` meets its contract: the situations below the one at hand are numbered by their keys, which are the pairs of the index. Assumes
+-- nothing.
 use Prim.Native.Nat.{_-_}
 use native.Mathlib.Omega.{arith}
 use borrow.Author.Needs.{needs}

@@ -1,3 +1,4 @@
+-- `state_entry` meets its contract: a letter that the machine has gets the state's word, and another 0. Assumes nothing.
 use borrow.Author.Needs.{needs}
 use borrow.Author.Tests.{lt-ltb, le-ltb}
 use Rattle.machine.proofs.Entries.{narrow-at}

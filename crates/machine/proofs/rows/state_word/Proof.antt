@@ -1,3 +1,5 @@
+-- `state_word` meets its contract: a word below 4,096 is a refusal's, and another is an output and a target, whose class is the next state.
+-- Assumes nothing.
 use native.Mathlib.Omega.{arith}
 use borrow.Author.Needs.{needs}
 use borrow.Author.Tests.{lt-ltb, le-ltb}

@@ -1,3 +1,4 @@
+-- `write_first` meets its contract: a situation of another class writes nothing, and the first of class q writes row q. Assumes nothing.
 use mathlib.Core.Path.{refl, sym, _∙_}
 use borrow.Author.Needs.{needs}
 use Rattle.machine.specs.inner.Writing.{later, first}
@@ -26,7 +27,9 @@ same-length c = search needs
 
 returns-2 : tie.Need-returns-2
 returns-2 c =
-    first (sym (c .before .before .before .before .before .wide .ensures .0) ∙ c .before .before .before .before .if1 .left) (c .before .before .write-row .ensures) refl
+    let row = c .before .before in
+    let test = row .before .before in
+    first (sym (test .before .wide .ensures .0) ∙ test .if1 .left) (row .write-row .ensures) refl
 
 pub write-first-spec : {M : Type 1} → statement M
 write-first-spec =

@@ -1,3 +1,4 @@
+-- `write_row` meets its contract: the words below the one at hand are written, and all else is as it was. Assumes nothing.
 use Prim.Native.Nat.{_-_, _≤_}
 use native.Mathlib.Omega.{arith}
 use borrow.Author.Needs.{needs}

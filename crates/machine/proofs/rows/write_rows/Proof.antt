@@ -1,3 +1,4 @@
+-- `write_rows` meets its contract: the classes below q have their rows, read off their first situations, all of which are passed. Assumes nothing.
 use Prim.Native.Nat.{_-_}
 use native.Mathlib.Omega.{arith}
 use borrow.Author.Needs.{needs}
@@ -9,7 +10,8 @@ use Rattle.machine.proofs.rows.write_rows.Statement.{statement}
 use Rattle.machine.proofs.rows.write_rows.Tie as tie
 
 abbrev Inv-loop : tie.InvT-loop
-Inv-loop table classes rows₀ letters k n q₀ i₀ rows q i = (x : Numbering k (at classes) n) → Writing x (stateEntry table classes letters) rows₀ rows q i
+Inv-loop table classes rows₀ letters k n q₀ i₀ rows q i =
+    (x : Numbering k (at classes) n) → Writing x (stateEntry table classes letters) rows₀ rows q i
 
 abbrev μ-loop : tie.MeasureT-loop
 μ-loop table classes rows₀ letters k n q₀ i₀ rows q i = k - i
@@ -31,7 +33,10 @@ loop-less : tie.Need-loop-less Inv-loop μ-loop
 loop-less c = search needs
 
 loop-again : tie.Need-loop-again Inv-loop μ-loop
-loop-again c x = writing-next x (c .before .before .before .before .before .loop .inv x) (c .before .before .before .before .loop-test .taken) (c .before .before .write-first .ensures)
+loop-again c x =
+    let write = c .before .before in
+    let test = write .before .before in
+    writing-next x (test .before .loop .inv x) (test .loop-test .taken) (write .write-first .ensures)
 
 same-length : tie.Need-same-length Inv-loop μ-loop
 same-length c = c .before .loop .inv (c .before .before .before .before .before .pre .1 .1) .done .size

@@ -1,3 +1,4 @@
+-- `answer` meets its contract: an access takes a step of the rule, and a fence asks its table. Assumes nothing.
 use mathlib.Core.Path.{refl}
 use borrow.Author.Needs.{needs}
 use borrow.Author.Tests.{lt-ltb, le-ltb}

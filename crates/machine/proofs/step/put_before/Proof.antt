@@ -1,3 +1,4 @@
+-- `put_before` meets its contract: each step means the answer that it is turned into. Assumes nothing.
 use borrow.Author.Needs.{needs}
 use Rattle.machine.proofs.step.put_before.Statement.{statement}
 use Rattle.machine.proofs.step.put_before.Tie as tie
