@@ -88,7 +88,7 @@ pub fn print_answer(answer: Answer) {
 }
 
 // What a call has put out: the first bytes of its buffer, as many as it says that it has written.
-pub fn output(answer: Answer, buffer: &[u8]) -> &[u8]
+pub fn output_of(answer: Answer, buffer: &[u8]) -> &[u8]
     ensures { λ r. ⌜ now r ≡ take (getD (numbersOf answer) 2 0) (now (buffer .entry)) ⌝ }
 {
     let numbers = answer.numbers();

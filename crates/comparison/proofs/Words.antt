@@ -45,9 +45,12 @@ module _ (P : Row → Type 0) (Q : Type 0) where
       all Row.St = z
 
 higher-or : (a b : Table) → NoneLower b a ⊎ SomeHigher a b
-higher-or a b =
-    each-row (λ (r : Row). (c : Column) → cell a r c ≤ cell b r c) (SomeHigher a b) (row Row.Cld) (row Row.Cst) (row Row.Ld) (row Row.St)
+higher-or a b = each-row Low (SomeHigher a b) (row Row.Cld) (row Row.Cst) (row Row.Ld) (row Row.St)
   where
+    -- a row of which no cell is higher
+    Low : Row → Type 0
+    Low r = (c : Column) → cell a r c ≤ cell b r c
+
     at : (r : Row) (c : Column) → (cell a r c ≤ cell b r c) ⊎ SomeHigher a b
     at r c = by (decLe (cell a r c) (cell b r c))
       where
@@ -55,10 +58,8 @@ higher-or a b =
         by (yes l) = inl l
         by (no g) = inr (r, c, omega arith)
 
-    row : (r : Row) → ((c : Column) → cell a r c ≤ cell b r c) ⊎ SomeHigher a b
-    row r =
-        each-column (λ (c : Column). cell a r c ≤ cell b r c) (SomeHigher a b)
-        (at r Column.Ld) (at r Column.Cld) (at r Column.St) (at r Column.Cst)
+    row : (r : Row) → Low r ⊎ SomeHigher a b
+    row r = each-column (λ (c : Column). cell a r c ≤ cell b r c) _ (at r Column.Ld) (at r Column.Cld) (at r Column.St) (at r Column.Cst)
 
 module _ (a b : Table) where
   low : atLeast a b ≡ false → NoneLower a b → ⊥

@@ -25,14 +25,14 @@ run-requires c κs = search needs
 print-answer-requires : tie.Need-print-answer-requires
 print-answer-requires c κs = search needs
 
-slice-aggregate-output : tie.Need-slice-aggregate-output
-slice-aggregate-output c = search (length-front, needs)
+slice-aggregate-output-of : tie.Need-slice-aggregate-output-of
+slice-aggregate-output-of c = search (length-front, needs)
 
-output-requires : tie.Need-output-requires
-output-requires c κs = search needs
+output-of-requires : tie.Need-output-of-requires
+output-of-requires c κs = search needs
 
-print-output-requires : tie.Need-print-output-requires
-print-output-requires c κs = search needs
+print-output-of-requires : tie.Need-print-output-of-requires
+print-output-of-requires c κs = search needs
 
 slice-aggregate-print-kept : tie.Need-slice-aggregate-print-kept
 slice-aggregate-print-kept c = search (length-front, needs)
@@ -60,9 +60,9 @@ run-spec =
     slice-aggregate-run
     run-requires
     print-answer-requires
-    slice-aggregate-output
-    output-requires
-    print-output-requires
+    slice-aggregate-output-of
+    output-of-requires
+    print-output-of-requires
     slice-aggregate-print-kept
     print-kept-requires
     slice-aggregate-write-all
