@@ -31,8 +31,8 @@ slice-aggregate-output-of c = search (length-front, needs)
 output-of-requires : tie.Need-output-of-requires
 output-of-requires c κs = search needs
 
-print-output-of-requires : tie.Need-print-output-of-requires
-print-output-of-requires c κs = search needs
+print-output-requires : tie.Need-print-output-requires
+print-output-requires c κs = search needs
 
 slice-aggregate-print-kept : tie.Need-slice-aggregate-print-kept
 slice-aggregate-print-kept c = search (length-front, needs)
@@ -62,7 +62,7 @@ run-spec =
     print-answer-requires
     slice-aggregate-output-of
     output-of-requires
-    print-output-of-requires
+    print-output-requires
     slice-aggregate-print-kept
     print-kept-requires
     slice-aggregate-write-all
