@@ -16,7 +16,7 @@ use Rattle.models.specs.Reading.{tableIn}
 use Rattle.models.specs.Told.{held, accepting}
 use Rattle.printing.specs.Name.{unfilled}
 use Rattle.writing.specs.Writing.{fencesOf, described}
-use Rattle.writing.specs.Calls.{textGiven}
+use Rattle.writing.specs.Calls.{textGiven, readingGiven}
 use Rattle.writing.proofs.WrittenBack.{given-settled}
 use Rattle.built_ins.specs.BuiltIns.{fourRows, under, none, model, builtIns, builtIn, builtInReading}
 use Rattle.built_ins.proofs.BuiltIns.{row-is, answered, out-of-range}
@@ -44,6 +44,5 @@ built-back n e = by (decLt 15 n)
         ap (λ (r : Reading). textOf (described (r .model))) (sym (answered n (held (builtIn n)) (omega arith) (sym (row-is n (omega arith)))))
         ∙ ap textOf (built-described n)
 
-pub given-built : (n : ℕ)
-    → textGiven (builtInReading n .verdict) (textOf (described (builtInReading n .model))) ≡ textGiven (builtInReading n .verdict) (textOf (builtIn n))
+pub given-built : (n : ℕ) → readingGiven (builtInReading n) ≡ textGiven (builtInReading n .verdict) (textOf (builtIn n))
 given-built n = given-settled (builtInReading n) _ _ (built-back n)

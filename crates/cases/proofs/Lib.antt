@@ -1,2 +1,3 @@
-pub mod Filled
-pub mod Behind
+pub mod Buffers
+pub mod Bars
+pub mod Unique

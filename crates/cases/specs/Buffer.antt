@@ -1,4 +1,4 @@
--- What stands in a buffer.
+-- What stands in a buffer that a case is tried on.
 use Prim.Native.Nat.{ℕ, _<_, _%_}
 use mathlib.Core.Path.{_≡_}
 use mathlib.Core.Bool.{Bool, true, false, cond}
@@ -7,9 +7,9 @@ use lib.Dec.{eqb}
 use lib.ListN.{length, getD}
 
 -- whether every byte is `#`, of which buffers are full before a call
-abbrev pub filled : List ℕ → Bool
-filled [] = true
-filled (b ∷ rest) = cond (eqb b 35) (filled rest) false
+abbrev pub untouched : List ℕ → Bool
+untouched [] = true
+untouched (b ∷ rest) = cond (eqb b 35) (untouched rest) false
 
 -- the first so many bytes are those of a piece, over and over; of a piece of nothing this says nothing
 pub record Repeats (piece bytes : List ℕ) (n : ℕ) : Type 0 where

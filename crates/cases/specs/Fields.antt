@@ -7,16 +7,16 @@ use lib.ListN.{take, drop}
 use Rattle.bytes.specs.Bytes.{indexOf}
 
 -- the first field, and what stands behind its bar
-abbrev pub ahead : List ℕ → List ℕ
-ahead s = take (indexOf 124 s) s
+abbrev pub firstOf : List ℕ → List ℕ
+firstOf s = take (indexOf 124 s) s
 
-abbrev pub behind : List ℕ → List ℕ
-behind s = drop (suc (indexOf 124 s)) s
+abbrev pub othersOf : List ℕ → List ℕ
+othersOf s = drop (suc (indexOf 124 s)) s
 
 -- all from a field on, the first being field 0
 abbrev pub from : ℕ → List ℕ → List ℕ
 from zero s = s
-from (suc k) s = from k (behind s)
+from (suc k) s = from k (othersOf s)
 
 -- the number with a digit behind it, modulo 2^64, any byte being one of sixteen digits; a number with no room for a digit stays as it is
 abbrev pub withDigit : ℕ → ℕ → ℕ

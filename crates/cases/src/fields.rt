@@ -2,13 +2,13 @@
 ghost use Prim.Native.Nat.{_≤_};
 ghost use mathlib.Core.Path.{_≡_};
 ghost use lib.ListN.{length, drop};
-ghost use Rattle.cases.specs.Fields.{ahead, behind, from, numberIn, withDigit};
+ghost use Rattle.cases.specs.Fields.{firstOf, othersOf, from, numberIn, withDigit};
 
 // Where the field behind this one begins.
 fn next(input: &[u8], at: usize) -> usize
     requires { ⌜ at ≤ length (now input) ⌝ }
     ensures { λ r. ⌜ r ≤ length (now (input .entry)) ⌝ }
-    ensures { λ r. ⌜ drop r (now (input .entry)) ≡ behind (drop at (now (input .entry))) ⌝ }
+    ensures { λ r. ⌜ drop r (now (input .entry)) ≡ othersOf (drop at (now (input .entry))) ⌝ }
 {
     let end = bytes::scan::find(input, at, input.len(), b'|');
     if end < input.len() { end + 1 } else { end }
@@ -40,17 +40,11 @@ pub fn rest(input: &[u8], k: usize) -> &[u8]
 
 // A field, without its bar.
 pub fn field(input: &[u8], k: usize) -> &[u8]
-    ensures { λ r. ⌜ now r ≡ ahead (from k (now (input .entry))) ⌝ }
+    ensures { λ r. ⌜ now r ≡ firstOf (from k (now (input .entry))) ⌝ }
 {
     let at = start(input, k);
     let end = bytes::scan::find(input, at, input.len(), b'|');
     &input[at..end]
-}
-
-fn wide(byte: u8) -> u64
-    ensures { λ r. ⌜ r ≡ byte ⌝ }
-{
-    byte as u64
 }
 
 // The number with a digit behind it, modulo 2^64, any byte being one of sixteen digits; a number with no room for a digit stays as it is.
@@ -58,7 +52,7 @@ fn with_digit(sum: u64, byte: u8) -> u64
     ensures { λ r. ⌜ r ≡ withDigit sum byte ⌝ }
 {
     if sum <= 1844674407370955161 {
-        std::num::wrapping_add_u64(sum * 10, wide(byte) % 16)
+        std::num::wrapping_add_u64(sum * 10, ground::wide(byte) as u64 % 16)
     } else {
         sum
     }

@@ -4,7 +4,7 @@ ghost use mathlib.Core.Path.{_≡_};
 ghost use lib.ListN.{length, getD, take, drop};
 ghost use Rattle.answers.specs.Answer.{numbersOf};
 ghost use Rattle.io.specs.Counts.{Counts};
-ghost use Rattle.cases.specs.Buffer.{filled, Repeats};
+ghost use Rattle.cases.specs.Buffer.{untouched, Repeats};
 
 pub mod fields;
 
@@ -47,9 +47,9 @@ pub fn repeat(piece: &[u8], out: &mut [u8])
     }
 }
 
-// Whether every byte from a place on is `#`, with which buffers are filled.
+// Whether every byte from a place on is `#`, of which buffers are full before a call.
 pub fn kept(buffer: &[u8], from: usize) -> bool
-    ensures { λ r. ⌜ r ≡ filled (drop from (now (buffer .entry))) ⌝ }
+    ensures { λ r. ⌜ r ≡ untouched (drop from (now (buffer .entry))) ⌝ }
 {
     let mut i = from;
     while i < buffer.len() {
@@ -87,8 +87,8 @@ pub fn print_answer(answer: Answer) {
     print_numbers(&numbers);
 }
 
-// What a call has written to its buffer.
-pub fn written(answer: Answer, buffer: &[u8]) -> &[u8]
+// What a call has put out: the first bytes of its buffer, as many as it says that it has written.
+pub fn output_of(answer: Answer, buffer: &[u8]) -> &[u8]
     ensures { λ r. ⌜ now r ≡ take (getD (numbersOf answer) 2 0) (now (buffer .entry)) ⌝ }
 {
     let numbers = answer.numbers();

@@ -49,7 +49,7 @@ comparison a b =
 
 -- the refusals of the first text, then of the second, then the comparison
 abbrev pub comparedBoth : Table → Verdict → Table → Compared
-comparedBoth a Verdict.Accepted b = Compared.Found (comparison a b)
+comparedBoth a Verdict.Accepted b = Compared.Is (comparison a b)
 comparedBoth a (Verdict.Refused why) b = Compared.Refused why
 
 abbrev pub comparedFirst : Verdict → Table → Reading → Compared

@@ -6,6 +6,7 @@ use answers::Verdict;
 use models::model::Reading;
 use tables::table::Table;
 
+// How one model stands to another.
 pub enum Comparison {
     Equal,
     FirstStronger,
@@ -26,11 +27,13 @@ impl Comparison {
     }
 }
 
+// What a comparison answers.
 pub enum Compared {
-    Found(Comparison),
+    Is(Comparison),
     Refused(Refusal),
 }
 
+// Compares two tables.
 pub fn compare_tables(first: Table, second: Table) -> Comparison
     ensures equation { λ r. ⌜ r ≡ comparison first second ⌝ }
     ensures words { λ r. ⌜ Compares first second r ⌝ }
@@ -54,7 +57,7 @@ fn compare_with(first: Table, second: Reading) -> Compared
     let model = second.model;
     match verdict {
         Verdict::Refused(why) => Compared::Refused(why),
-        Verdict::Accepted => Compared::Found(compare_tables(first, model.ppo)),
+        Verdict::Accepted => Compared::Is(compare_tables(first, model.ppo)),
     }
 }
 

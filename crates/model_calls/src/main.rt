@@ -14,7 +14,7 @@ fn try_text(text: &[u8], room: usize) {
     let n = cases::at_most(room, &out);
     let answer = writing::rewrite(text, &mut out[..n]);
     print_line(answer);
-    let back = cases::written(answer, &out);
+    let back = cases::output_of(answer, &out);
     if check::same(back, text) {
         io::write_all(1, b"same\n");
     }
@@ -27,7 +27,7 @@ fn try_built_in(number: u64) {
     let mut out = [0u8; 1024];
     let answer = built_ins::write_built_in(number, &mut out);
     print_line(answer);
-    let text = cases::written(answer, &out);
+    let text = cases::output_of(answer, &out);
     io::write_all(1, text);
     let n = text.len();
     if 0 < n {
@@ -47,7 +47,7 @@ fn try_built_ins() {
 
 fn print_compared(compared: Compared) {
     match compared {
-        Compared::Found(comparison) => {
+        Compared::Is(comparison) => {
             io::print_decimal(1, comparison.number());
         }
         Compared::Refused(why) => {
@@ -64,7 +64,7 @@ fn compare_built_ins(first: u64, second: u64) {
     let a = built_ins::write_built_in(first, &mut one);
     let mut two = [0u8; 1024];
     let b = built_ins::write_built_in(second, &mut two);
-    print_compared(comparison::compare(cases::written(a, &one), cases::written(b, &two)));
+    print_compared(comparison::compare(cases::output_of(a, &one), cases::output_of(b, &two)));
 }
 
 fn compare_row(first: u64) {
@@ -89,7 +89,7 @@ fn try_input(text: &[u8]) {
     try_text(text, 1024);
     let mut out = [0u8; 1024];
     let answer = built_ins::write_built_in(1, &mut out);
-    let good = cases::written(answer, &out);
+    let good = cases::output_of(answer, &out);
     print_compared(comparison::compare(text, good));
     io::write_all(1, b" ");
     print_compared(comparison::compare(good, text));

@@ -12,7 +12,7 @@ fn print_run<'a>(name: &'a [u8], way: u64, answer: Answer, buffer: &'a [u8]) {
     io::print_decimal(1, way);
     io::write_all(1, b": ");
     cases::print_answer(answer);
-    let output = cases::written(answer, buffer);
+    let output = cases::output_of(answer, buffer);
     io::write_all(1, b" [");
     io::write_all(1, output);
     io::write_all(1, b"]");

@@ -8,8 +8,9 @@ use Rattle.ground.proofs.Truths.{differ}
 use Rattle.answers.specs.declared.Verdict.{Verdict}
 use Rattle.models.specs.declared.model.Model.{Model}
 use Rattle.models.specs.declared.model.Reading.{Reading}
-use Rattle.models.specs.Reading.{reading, accepting, Told, over, departs, repeated, accepted}
+use Rattle.models.specs.Reading.{reading}
 use Rattle.models.proofs.Words.{told}
+use Rattle.models.specs.Told.{accepting, Told, over, departs, repeated, accepted}
 use Rattle.shims.specs.Models.{modelOf}
 
 few : {t : List ℕ} {r : Reading} → Told t r → r .verdict ≡ Verdict.Accepted → r .model .fences ≤ 16

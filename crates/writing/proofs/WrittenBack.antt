@@ -6,11 +6,9 @@ use mathlib.Core.List.{List}
 use Rattle.answers.specs.declared.Verdict.{Verdict}
 use Rattle.answers.specs.Given.{gives}
 use Rattle.models.specs.declared.model.Reading.{Reading}
-use Rattle.models.specs.Text.{textOf}
 use Rattle.models.specs.Reading.{reading}
 use Rattle.models.specs.Told.{accepting}
-use Rattle.writing.specs.Writing.{described}
-use Rattle.writing.specs.Calls.{textGiven}
+use Rattle.writing.specs.Calls.{textGiven, readingGiven}
 use Rattle.writing.proofs.RoundTrip.{written-read}
 
 pub given-settled : (r : Reading) (x y : List ℕ) → (r ≡ accepting (r .model) → x ≡ y) → textGiven (r .verdict) x ≡ textGiven (r .verdict) y
@@ -21,5 +19,5 @@ given-settled r x y h = by (r .verdict) refl
     by Verdict.Accepted e = ap (λ (t : List ℕ). gives t 0 0) (h (λ i. record { verdict = e i; model = r .model }))
 
 -- reading and writing back writes the text itself
-pub given-back : (t : List ℕ) → textGiven (reading t .verdict) (textOf (described (reading t .model))) ≡ textGiven (reading t .verdict) t
+pub given-back : (t : List ℕ) → readingGiven (reading t) ≡ textGiven (reading t .verdict) t
 given-back t = given-settled (reading t) _ _ (λ e. written-read t (reading t .model) e)

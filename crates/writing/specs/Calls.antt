@@ -3,8 +3,15 @@ use Prim.Native.Nat.{ℕ}
 use mathlib.Core.List.{List}
 use Rattle.answers.specs.declared.Verdict.{Verdict}
 use Rattle.answers.specs.Given.{Given, gives, refuses}
+use Rattle.models.specs.declared.model.Reading.{Reading}
+use Rattle.models.specs.Text.{textOf}
+use Rattle.writing.specs.Writing.{described}
 
 -- what a call gives that writes a text where what it read is accepted
 abbrev pub textGiven : Verdict → List ℕ → Given
 textGiven Verdict.Accepted text = gives text 0 0
 textGiven (Verdict.Refused why) text = refuses why
+
+-- and where what it read, or was given, is a reading
+abbrev pub readingGiven : Reading → Given
+readingGiven r = textGiven (r .verdict) (textOf (described (r .model)))

@@ -5,7 +5,7 @@ ghost use Rattle.answers.specs.Given.{gives, Delivers};
 ghost use Rattle.models.specs.Text.{textOf};
 ghost use Rattle.models.specs.Reading.{reading};
 ghost use Rattle.writing.specs.Writing.{described};
-ghost use Rattle.writing.specs.Calls.{textGiven};
+ghost use Rattle.writing.specs.Calls.{textGiven, readingGiven};
 use answers::Answer;
 use answers::Verdict;
 use models::model::Model;
@@ -22,7 +22,7 @@ pub fn write(model: Model, out: &mut [u8]) -> Answer
 
 // Writes the text of a model that was read or made, or tells why there is none.
 pub fn write_reading(r: Reading, out: &mut [u8]) -> Answer
-    ensures { λ a. ⌜ Delivers (textGiven (r .verdict) (textOf (described (r .model)))) (now (out .entry)) a (now (out .exit)) ⌝ }
+    ensures { λ a. ⌜ Delivers (readingGiven r) (now (out .entry)) a (now (out .exit)) ⌝ }
 {
     let verdict = r.verdict;
     let model = r.model;

@@ -2,10 +2,7 @@
 use mathlib.Core.Path.{ap, _∙_}
 use borrow.Author.Needs.{needs}
 use Rattle.answers.proofs.Given.{delivers-as}
-use Rattle.models.specs.declared.model.Reading.{Reading}
-use Rattle.models.specs.Text.{textOf}
-use Rattle.writing.specs.Writing.{described}
-use Rattle.writing.specs.Calls.{textGiven}
+use Rattle.writing.specs.Calls.{readingGiven}
 use Rattle.built_ins.proofs.BuiltText.{given-built}
 use Rattle.built_ins.proofs.write_built_in.Statement.{statement}
 use Rattle.built_ins.proofs.write_built_in.Tie as tie
@@ -23,7 +20,7 @@ returns : tie.Need-returns
 returns c =
     let b = c .before .before .before .before in
     delivers-as
-    (ap (λ (r : Reading). textGiven (r .verdict) (textOf (described (r .model)))) (b .built-in .ensures) ∙ given-built (b .before .before .args .number))
+    (ap readingGiven (b .built-in .ensures) ∙ given-built (b .before .before .args .number))
     (c .before .before .write-reading .ensures)
 
 pub write-built-in-spec : {M : Type 1} → statement M

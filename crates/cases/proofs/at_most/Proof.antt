@@ -1,4 +1,4 @@
--- `at_most` meets its contract. Assumes nothing.
+-- `at_most` meets its contract: the lower of the two. Assumes nothing.
 use mathlib.Core.Path.{sym}
 use native.Mathlib.Omega.{arith}
 use lib.Seq.{length-take-le}

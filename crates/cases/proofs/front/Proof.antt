@@ -1,9 +1,9 @@
--- `front` meets its contract. Assumes nothing.
+-- `front` meets its contract: all, or the first n. Assumes nothing.
 use mathlib.Core.Path.{sym}
 use native.Mathlib.Omega.{arith}
 use borrow.Author.Needs.{needs}
 use lib.Seq.{length-take-le}
-use Rattle.cases.proofs.Filled.{whole}
+use Rattle.cases.proofs.Buffers.{whole}
 use Rattle.cases.proofs.front.Statement.{statement}
 use Rattle.cases.proofs.front.Tie as tie
 

@@ -1,4 +1,4 @@
--- `print_numbers` meets its contract. Assumes nothing.
+-- `print_numbers` is safe and ends. Assumes nothing.
 use Prim.Native.Nat.{_-_}
 use borrow.Author.Needs.{needs}
 use lib.ListN.{length}

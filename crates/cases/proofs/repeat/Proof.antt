@@ -1,11 +1,11 @@
--- `repeat` meets its contract. Assumes nothing.
+-- `repeat` meets its contract: each byte so far is that of the piece. Assumes nothing.
 use Prim.Native.Nat.{_-_}
 use mathlib.Core.Path.{_≡_, refl}
 use native.Mathlib.Omega.{arith}
 use borrow.Author.Needs.{needs}
 use lib.ListN.{length, length-set}
 use Rattle.cases.specs.Buffer.{Repeats}
-use Rattle.cases.proofs.Filled.{repeats-none, repeats-nothing, repeats-on, repeats-to-the-end, within}
+use Rattle.cases.proofs.Buffers.{repeats-none, repeats-nothing, repeats-on, repeats-to-the-end, in-piece}
 use Rattle.cases.proofs.repeat.Statement.{statement}
 use Rattle.cases.proofs.repeat.Tie as tie
 
@@ -25,7 +25,7 @@ rem-out : tie.Need-rem-out Inv-loop μ-loop
 rem-out c = search needs
 
 shared-slice-read-out : tie.Need-shared-slice-read-out Inv-loop μ-loop
-shared-slice-read-out c = search (within, needs)
+shared-slice-read-out c = search (in-piece, needs)
 
 slice-write-out : tie.Need-slice-write-out Inv-loop μ-loop
 slice-write-out c = search needs

@@ -1,4 +1,4 @@
--- `compare` meets its contract. Assumes nothing.
+-- `compare` meets its contract: the first text's verdict decides, then the second's. Assumes nothing.
 use mathlib.Core.Path.{sym, ap, _∙_}
 use borrow.Author.Needs.{needs}
 use denote.Ref.{now}
@@ -27,21 +27,22 @@ compare-with-requires c κs = search needs
 returns : tie.Need-returns
 unfolding comparing
 returns c =
-    let a = c .before .before .before .before .before .before .before .args in
-    let s = reading (now (a .second)) in
-    let r = c .before .before .before .before .read in
+    let l = c .before .before .before .before in
+    let s = reading (now (l .before .before .before .args .second)) in
+    let r = l .read in
     ap (λ (v : Verdict). comparedFirst v (r .result .model .ppo) s) (sym (c .before .verdict .given .1))
     ∙ ap (λ (x : Reading). comparedFirst (x .verdict) (x .model .ppo) s) (r .ensures .0)
 
 returns-2 : tie.Need-returns-2
 unfolding comparing
 returns-2 c =
-    let a = c .before .before .before .before .before .before .before .before .args in
-    let r = c .before .before .before .before .before .read in
+    let l = c .before .before .before .before .before in
+    let s = reading (now (l .before .before .before .args .second)) in
+    let r = l .read in
     c .compare-with .ensures
     ∙ ap (λ (x : Reading). comparedBoth (r .result .model .ppo) (x .verdict) (x .model .ppo)) (c .before .read2 .ensures .0)
-    ∙ ap (λ (v : Verdict). comparedFirst v (r .result .model .ppo) (reading (now (a .second)))) (sym (c .before .before .enum-told .given .1))
-    ∙ ap (λ (x : Reading). comparedFirst (x .verdict) (x .model .ppo) (reading (now (a .second)))) (r .ensures .0)
+    ∙ ap (λ (v : Verdict). comparedFirst v (r .result .model .ppo) s) (sym (c .before .before .enum-told .given .1))
+    ∙ ap (λ (x : Reading). comparedFirst (x .verdict) (x .model .ppo) s) (r .ensures .0)
 
 pub compare-spec : {M : Type 1} → statement M
 compare-spec =

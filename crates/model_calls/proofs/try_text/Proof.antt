@@ -22,11 +22,11 @@ rewrite-requires c κs = search needs
 print-line-requires : tie.Need-print-line-requires
 print-line-requires c κs = search needs
 
-slice-aggregate-written : tie.Need-slice-aggregate-written
-slice-aggregate-written c = search (length-front, needs)
+slice-aggregate-output-of : tie.Need-slice-aggregate-output-of
+slice-aggregate-output-of c = search (length-front, needs)
 
-written-requires : tie.Need-written-requires
-written-requires c κs = search needs
+output-of-requires : tie.Need-output-of-requires
+output-of-requires c κs = search needs
 
 same-requires : tie.Need-same-requires
 same-requires c κs = search needs
@@ -65,8 +65,8 @@ try-text-spec =
     slice-aggregate-rewrite
     rewrite-requires
     print-line-requires
-    slice-aggregate-written
-    written-requires
+    slice-aggregate-output-of
+    output-of-requires
     same-requires
     slice-aggregate-write-all
     write-all-requires

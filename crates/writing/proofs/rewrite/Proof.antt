@@ -3,10 +3,7 @@ use mathlib.Core.Path.{ap, _∙_}
 use borrow.Author.Needs.{needs}
 use denote.Ref.{now}
 use Rattle.answers.proofs.Given.{delivers-as}
-use Rattle.models.specs.declared.model.Reading.{Reading}
-use Rattle.models.specs.Text.{textOf}
-use Rattle.writing.specs.Writing.{described}
-use Rattle.writing.specs.Calls.{textGiven}
+use Rattle.writing.specs.Calls.{readingGiven}
 use Rattle.writing.proofs.WrittenBack.{given-back}
 use Rattle.writing.proofs.rewrite.Statement.{statement}
 use Rattle.writing.proofs.rewrite.Tie as tie
@@ -24,9 +21,7 @@ returns : tie.Need-returns
 returns c =
     let r = c .before .before .before .before in
     let text = now (r .before .before .before .args .text) in
-    delivers-as
-    (ap (λ (x : Reading). textGiven (x .verdict) (textOf (described (x .model)))) (r .read .ensures .0) ∙ given-back text)
-    (c .before .before .write-reading .ensures)
+    delivers-as (ap readingGiven (r .read .ensures .0) ∙ given-back text) (c .before .before .write-reading .ensures)
 
 pub rewrite-spec : {M : Type 1} → statement M
 rewrite-spec = tie.close (tie.spec read-requires write-reading-requires same-length returns)

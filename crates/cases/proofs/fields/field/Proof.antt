@@ -1,6 +1,6 @@
--- `field` meets its contract. Assumes nothing.
+-- `field` meets its contract: it ends before the first bar. Assumes nothing.
 use borrow.Author.Needs.{needs}
-use Rattle.cases.proofs.Behind.{one-field}
+use Rattle.cases.proofs.Bars.{one-field}
 use Rattle.cases.proofs.fields.field.Statement.{statement}
 use Rattle.cases.proofs.fields.field.Tie as tie
 

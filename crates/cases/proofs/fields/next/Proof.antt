@@ -1,6 +1,6 @@
--- `next` meets its contract. Assumes nothing.
+-- `next` meets its contract: the bar is the first. Assumes nothing.
 use borrow.Author.Needs.{needs}
-use Rattle.cases.proofs.Behind.{next-one, next-none}
+use Rattle.cases.proofs.Bars.{next-one, next-none}
 use Rattle.cases.proofs.fields.next.Statement.{statement}
 use Rattle.cases.proofs.fields.next.Tie as tie
 

@@ -1,10 +1,10 @@
--- `number` meets its contract. Assumes nothing.
+-- `number` meets its contract: the digits that are left decide. Assumes nothing.
 use Prim.Native.Nat.{_-_}
 use mathlib.Core.Path.{_≡_}
 use borrow.Author.Needs.{needs}
 use lib.ListN.{length, drop}
 use Rattle.cases.specs.Fields.{numberIn}
-use Rattle.cases.proofs.Behind.{digits-on, digits-end}
+use Rattle.cases.proofs.Bars.{digits-on, digits-end}
 use Rattle.cases.proofs.fields.number.Statement.{statement}
 use Rattle.cases.proofs.fields.number.Tie as tie
 

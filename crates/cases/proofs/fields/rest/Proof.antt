@@ -1,6 +1,6 @@
--- `rest` meets its contract. Assumes nothing.
+-- `rest` meets its contract: it goes on to the end. Assumes nothing.
 use borrow.Author.Needs.{needs}
-use Rattle.cases.proofs.Behind.{all-from}
+use Rattle.cases.proofs.Bars.{all-from}
 use Rattle.cases.proofs.fields.rest.Statement.{statement}
 use Rattle.cases.proofs.fields.rest.Tie as tie
 

@@ -1,10 +1,10 @@
--- `start` meets its contract. Assumes nothing.
+-- `start` meets its contract: as many fields are left to pass over. Assumes nothing.
 use Prim.Native.Nat.{_≤_}
 use mathlib.Core.Path.{_≡_}
 use borrow.Author.Needs.{needs}
 use lib.ListN.{length, drop}
 use Rattle.cases.specs.Fields.{from}
-use Rattle.cases.proofs.Behind.{fields-on, fields-none, fields-end}
+use Rattle.cases.proofs.Bars.{fields-on, fields-none, fields-end}
 use Rattle.cases.proofs.fields.start.Statement.{statement}
 use Rattle.cases.proofs.fields.start.Tie as tie
 

@@ -1,6 +1,6 @@
--- `with_digit` meets its contract. Assumes nothing.
+-- `with_digit` meets its contract: by whether there is room for a digit. Assumes nothing.
 use borrow.Author.Needs.{needs}
-use Rattle.cases.proofs.Behind.{digit-fits, digit-not}
+use Rattle.cases.proofs.Bars.{digit-fits, digit-not}
 use Rattle.cases.proofs.fields.with_digit.Statement.{statement}
 use Rattle.cases.proofs.fields.with_digit.Tie as tie
 

@@ -34,11 +34,11 @@ write-all-requires c κs = search needs
 print-header-requires : tie.Need-print-header-requires
 print-header-requires c κs = search needs
 
-slice-aggregate-written : tie.Need-slice-aggregate-written
-slice-aggregate-written c = search (length-front, needs)
+slice-aggregate-output-of : tie.Need-slice-aggregate-output-of
+slice-aggregate-output-of c = search (length-front, needs)
 
-written-requires : tie.Need-written-requires
-written-requires c κs = search needs
+output-of-requires : tie.Need-output-of-requires
+output-of-requires c κs = search needs
 
 print-same-requires : tie.Need-print-same-requires
 print-same-requires c κs = search needs
@@ -66,8 +66,8 @@ rewrite-spec =
     slice-aggregate-write-all
     write-all-requires
     print-header-requires
-    slice-aggregate-written
-    written-requires
+    slice-aggregate-output-of
+    output-of-requires
     print-same-requires
     slice-aggregate-print-kept
     print-kept-requires

@@ -25,11 +25,11 @@ run-requires c κs = search needs
 print-answer-requires : tie.Need-print-answer-requires
 print-answer-requires c κs = search needs
 
-slice-aggregate-written : tie.Need-slice-aggregate-written
-slice-aggregate-written c = search (length-front, needs)
+slice-aggregate-output-of : tie.Need-slice-aggregate-output-of
+slice-aggregate-output-of c = search (length-front, needs)
 
-written-requires : tie.Need-written-requires
-written-requires c κs = search needs
+output-of-requires : tie.Need-output-of-requires
+output-of-requires c κs = search needs
 
 print-output-requires : tie.Need-print-output-requires
 print-output-requires c κs = search needs
@@ -60,8 +60,8 @@ run-spec =
     slice-aggregate-run
     run-requires
     print-answer-requires
-    slice-aggregate-written
-    written-requires
+    slice-aggregate-output-of
+    output-of-requires
     print-output-requires
     slice-aggregate-print-kept
     print-kept-requires

@@ -1,4 +1,4 @@
--- `cell_letter` meets its contract. Assumes nothing.
+-- `cell_letter` meets its contract: the letter is that of the cell's level. Assumes nothing.
 use mathlib.Core.Path.{ap, _∙_}
 use borrow.Author.Needs.{needs}
 use Rattle.models.specs.Text.{letter}
