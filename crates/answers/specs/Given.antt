@@ -6,12 +6,22 @@ use mathlib.Core.List.{List}
 use lib.ListN.{length}
 use Rattle.answers.specs.declared.Refusal.{Refusal}
 use Rattle.answers.specs.declared.Answer.{Answer}
+use Rattle.answers.specs.declared.Verdict.{Verdict}
 use Rattle.answers.specs.Buffer.{bufferWith, answerWith}
 
 -- bytes to write, with the fences and the end state to tell; or a refusal
 pub data Given : Type 0 where
   gives : List ℕ → ℕ → ℕ → Given
   refuses : Refusal → Given
+
+-- what is given unless a verdict refuses it, and the same where it is told by a property
+abbrev pub unlessRefused : Verdict → Given → Given
+unlessRefused Verdict.Accepted given = given
+unlessRefused (Verdict.Refused why) given = refuses why
+
+abbrev pub GivenUnless : Verdict → (Given → Type 0) → Given → Type 0
+GivenUnless Verdict.Accepted Right g = Right g
+GivenUnless (Verdict.Refused why) Right g = g ≡ refuses why
 
 -- the answer where the buffer has room for so many bytes, and the buffer after it
 abbrev pub answerOf : Given → ℕ → Answer

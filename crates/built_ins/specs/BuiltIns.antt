@@ -9,11 +9,14 @@ use lib.Dec.{ltb}
 use lib.ListN.{getD}
 use Rattle.ground.specs.Bytes.{bytes}
 use Rattle.answers.specs.declared.Refusal.{Refusal}
+use Rattle.answers.specs.Given.{Given}
 use Rattle.tables.specs.declared.table.Table.{Table}
 use Rattle.models.specs.declared.model.Reading.{Reading}
 use Rattle.models.specs.Model.{Fence, Description}
 use Rattle.models.specs.Reading.{tableIn}
 use Rattle.models.specs.Told.{held, accepting, refusing}
+use Rattle.models.specs.Text.{textOf}
+use Rattle.writing.specs.Calls.{textGiven}
 
 -- a table by its four rows, and by its ld and st rows
 unfoldable pub fourRows : String → Table
@@ -69,3 +72,7 @@ builtIn n = getD builtIns n (model "" none [])
 
 unfoldable pub builtInReading : ℕ → Reading
 builtInReading n = cond (ltb 15 n) (refusing Refusal.OutOfRange) (accepting (held (builtIn n)))
+
+-- what the call gives that writes a built-in model's text
+abbrev pub builtInGiven : ℕ → Given
+builtInGiven n = textGiven (builtInReading n .verdict) (textOf (builtIn n))

@@ -3,9 +3,7 @@ mod numbers;
 
 ghost use mathlib.Core.Path.{_≡_};
 ghost use Rattle.answers.specs.Given.{Delivers};
-ghost use Rattle.models.specs.Text.{textOf};
-ghost use Rattle.writing.specs.Calls.{textGiven};
-ghost use Rattle.built_ins.specs.BuiltIns.{builtIn, builtInReading};
+ghost use Rattle.built_ins.specs.BuiltIns.{builtInReading, builtInGiven};
 use answers::Answer;
 use answers::Refusal;
 use answers::Verdict;
@@ -28,7 +26,7 @@ pub fn built_in(number: u64) -> Reading
 
 // Writes the text of a built-in model.
 pub fn write_built_in(number: u64, out: &mut [u8]) -> Answer
-    ensures { λ a. ⌜ Delivers (textGiven (builtInReading number .verdict) (textOf (builtIn number))) (now (out .entry)) a (now (out .exit)) ⌝ }
+    ensures { λ a. ⌜ Delivers (builtInGiven number) (now (out .entry)) a (now (out .exit)) ⌝ }
 {
     writing::write_reading(built_in(number), out)
 }

@@ -14,11 +14,11 @@ numberIn (Answer.Refused why) = numberOf why
 
 -- a comparison as an answer, and as its relation: 0 equal, 1 first stronger, 2 second stronger, 3 neither; 0 where refused
 abbrev pub comparedAs : Compared → Answer
-comparedAs (Compared.Found is) = Answer.Done 0 0 0
+comparedAs (Compared.Is is) = Answer.Done 0 0 0
 comparedAs (Compared.Refused why) = Answer.Refused why
 
 abbrev pub relationOf : Compared → ℕ
-relationOf (Compared.Found is) = Comparison.numberOf is
+relationOf (Compared.Is is) = Comparison.numberOf is
 relationOf (Compared.Refused why) = 0
 
 -- what is told of a call whose promise relates its answer to the buffer after it: the numbers are those of an answer that keeps the promise

@@ -1,16 +1,13 @@
 // The calls for the C host: numbers as themselves, a region as a pointer and a length, and the answer's five numbers through a pointer that
 // every call sets whole. Each is one line over a call of a crate below.
 ghost use mathlib.Core.Path.{_≡_};
-ghost use lib.ListN.{length};
 ghost use Rattle.answers.specs.Answer.{numbersOf};
-ghost use Rattle.answers.specs.Given as Given;
-ghost use Rattle.models.specs.Text.{textOf};
-ghost use Rattle.models.specs.Reading.{reading};
-ghost use Rattle.built_ins.specs.BuiltIns.{builtIn, builtInReading};
-ghost use Rattle.writing.specs.Calls.{answerAfter, bufferAfter};
+ghost use Rattle.answers.specs.Given.{Delivers, Answers};
+ghost use Rattle.writing.specs.Calls.{backGiven};
+ghost use Rattle.built_ins.specs.BuiltIns.{builtInGiven};
 ghost use Rattle.comparison.specs.Comparison.{comparing};
-ghost use Rattle.runs.specs.Call.{outcome, answerOf, bufferOf};
-ghost use Rattle.image.specs.Calls.{writtenBack, headerAs};
+ghost use Rattle.runs.specs.Call.{outcome};
+ghost use Rattle.image.specs.Calls.{Rewrites};
 ghost use Rattle.image_runs.specs.Run.{runOver};
 ghost use Rattle.generation.specs.Generating.{ImageGiven};
 ghost use Rattle.listing.specs.Listed.{Listed};
@@ -30,18 +27,14 @@ fn tell(what: Answer, answer: &mut [u64; 5]) -> u64
 
 #[no_mangle]
 pub extern "C" fn shim_builtin(number: u64, out: &mut [u8], answer: &mut [u64; 5]) -> u64
-    ensures number { λ r. ⌜ r ≡ numberIn (answerAfter (builtInReading number .verdict) (textOf (builtIn number)) (now (out .entry))) ⌝ }
-    ensures answer { λ _. ⌜ now (answer .exit) ≡ numbersOf (answerAfter (builtInReading number .verdict) (textOf (builtIn number)) (now (out .entry))) ⌝ }
-    ensures buffer { λ _. ⌜ now (out .exit) ≡ bufferAfter (builtInReading number .verdict) (textOf (builtIn number)) (now (out .entry)) ⌝ }
+    ensures { λ r. ⌜ Tells (Delivers (builtInGiven number) (now (out .entry))) r (now (answer .exit)) (now (out .exit)) ⌝ }
 {
     tell(built_ins::write_built_in(number, out), answer)
 }
 
 #[no_mangle]
 pub extern "C" fn shim_model(text: &[u8], out: &mut [u8], answer: &mut [u64; 5]) -> u64
-    ensures number { λ r. ⌜ r ≡ numberIn (answerAfter (reading (now (text .entry)) .verdict) (now (text .entry)) (now (out .entry))) ⌝ }
-    ensures answer { λ _. ⌜ now (answer .exit) ≡ numbersOf (answerAfter (reading (now (text .entry)) .verdict) (now (text .entry)) (now (out .entry))) ⌝ }
-    ensures buffer { λ _. ⌜ now (out .exit) ≡ bufferAfter (reading (now (text .entry)) .verdict) (now (text .entry)) (now (out .entry)) ⌝ }
+    ensures { λ r. ⌜ Tells (Delivers (backGiven (now (text .entry))) (now (out .entry))) r (now (answer .exit)) (now (out .exit)) ⌝ }
 {
     tell(writing::rewrite(text, out), answer)
 }
@@ -55,9 +48,7 @@ pub extern "C" fn shim_run<'a>(
     out: &mut [u8],
     answer: &mut [u64; 5],
 ) -> u64
-    ensures number { λ r. ⌜ r ≡ numberIn (answerOf (outcome way (now (upstream .entry)) (now (target .entry)) (now (stream .entry))) (length (now (out .entry)))) ⌝ }
-    ensures answer { λ _. ⌜ now (answer .exit) ≡ numbersOf (answerOf (outcome way (now (upstream .entry)) (now (target .entry)) (now (stream .entry))) (length (now (out .entry)))) ⌝ }
-    ensures buffer { λ _. ⌜ now (out .exit) ≡ bufferOf (outcome way (now (upstream .entry)) (now (target .entry)) (now (stream .entry))) (now (out .entry)) ⌝ }
+    ensures { λ r. ⌜ Tells (Delivers (outcome way (now (upstream .entry)) (now (target .entry)) (now (stream .entry))) (now (out .entry))) r (now (answer .exit)) (now (out .exit)) ⌝ }
 {
     tell(runs::run(way, upstream, target, stream, out), answer)
 }
@@ -71,7 +62,7 @@ pub extern "C" fn shim_generate<'a>(
     out: &mut [u8],
     answer: &mut [u64; 5],
 ) -> u64
-    ensures { λ r. ⌜ Tells (Given.Answers (ImageGiven way (now (upstream .entry)) (now (target .entry))) (now (out .entry))) r (now (answer .exit)) (now (out .exit)) ⌝ }
+    ensures { λ r. ⌜ Tells (Answers (ImageGiven way (now (upstream .entry)) (now (target .entry))) (now (out .entry))) r (now (answer .exit)) (now (out .exit)) ⌝ }
 {
     tell(generation::generate(way, upstream, target, out), answer)
 }
@@ -84,10 +75,7 @@ pub extern "C" fn shim_image_read(
     header: &mut [u64; 4],
     answer: &mut [u64; 5],
 ) -> u64
-    ensures number { λ r. ⌜ r ≡ numberIn (Given.answerOf (writtenBack (now (image .entry))) (length (now (out .entry)))) ⌝ }
-    ensures header { λ _. ⌜ now (header .exit) ≡ headerAs (now (image .entry)) (Given.answerOf (writtenBack (now (image .entry))) (length (now (out .entry)))) ⌝ }
-    ensures answer { λ _. ⌜ now (answer .exit) ≡ numbersOf (Given.answerOf (writtenBack (now (image .entry))) (length (now (out .entry)))) ⌝ }
-    ensures buffer { λ _. ⌜ now (out .exit) ≡ Given.bufferOf (writtenBack (now (image .entry))) (now (out .entry)) ⌝ }
+    ensures { λ r. ⌜ Tells (Rewrites (now (image .entry)) (now (out .entry)) (now (header .exit))) r (now (answer .exit)) (now (out .exit)) ⌝ }
 {
     tell(image::calls::rewrite(image, header, out), answer)
 }
@@ -101,9 +89,7 @@ pub extern "C" fn shim_image_run<'a>(
     out: &mut [u8],
     answer: &mut [u64; 5],
 ) -> u64
-    ensures number { λ r. ⌜ r ≡ numberIn (Given.answerOf (runOver (now (image .entry)) start (now (stream .entry))) (length (now (out .entry)))) ⌝ }
-    ensures answer { λ _. ⌜ now (answer .exit) ≡ numbersOf (Given.answerOf (runOver (now (image .entry)) start (now (stream .entry))) (length (now (out .entry)))) ⌝ }
-    ensures buffer { λ _. ⌜ now (out .exit) ≡ Given.bufferOf (runOver (now (image .entry)) start (now (stream .entry))) (now (out .entry)) ⌝ }
+    ensures { λ r. ⌜ Tells (Delivers (runOver (now (image .entry)) start (now (stream .entry))) (now (out .entry))) r (now (answer .exit)) (now (out .exit)) ⌝ }
 {
     tell(image_runs::run(image, start, stream, out), answer)
 }
@@ -111,7 +97,7 @@ pub extern "C" fn shim_image_run<'a>(
 // The listing of an input: two models, a way and a stream.
 #[no_mangle]
 pub extern "C" fn shim_list(input: &[u8], out: &mut [u8], answer: &mut [u64; 5]) -> u64
-    ensures { λ r. ⌜ Tells (Given.Answers (Listed (now (input .entry))) (now (out .entry))) r (now (answer .exit)) (now (out .exit)) ⌝ }
+    ensures { λ r. ⌜ Tells (Answers (Listed (now (input .entry))) (now (out .entry))) r (now (answer .exit)) (now (out .exit)) ⌝ }
 {
     tell(listing::list(input, out), answer)
 }
@@ -137,7 +123,7 @@ fn relation_in(compared: Compared) -> u64
     ensures { λ r. ⌜ r ≡ relationOf compared ⌝ }
 {
     match compared {
-        Compared::Found(is) => is.number(),
+        Compared::Is(is) => is.number(),
         Compared::Refused(_) => 0,
     }
 }
@@ -146,7 +132,7 @@ fn as_answer(compared: Compared) -> Answer
     ensures { λ r. ⌜ r ≡ comparedAs compared ⌝ }
 {
     match compared {
-        Compared::Found(_) => Answer::Done {
+        Compared::Is(_) => Answer::Done {
             written: 0,
             fences: 0,
             state: 0,

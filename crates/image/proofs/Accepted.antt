@@ -18,8 +18,7 @@ use Rattle.operations.specs.Alphabet.{stride}
 use Rattle.layout.specs.declared.places.Place.{Place}
 use Rattle.layout.specs.Checksum.{twoBytes}
 use Rattle.layout.specs.Layout.{limit, blocksFor, standsAt, position}
-use Rattle.layout.specs.Barred.{wrong, checkOf, blockCount, wrongCount, barredFence, nextBelow, statesOf, upstreamFencesOf, targetFencesOf}
-use Rattle.layout.specs.Barred.{barredAs, barred, lowestWrong, lowestBarred, stages, verdictOf}
+use Rattle.layout.specs.Barred.{wrong, checkOf, blockCount, wrongCount, barredFence, nextBelow, statesOf, upstreamFencesOf, targetFencesOf, barredAs, barred, lowestWrong, lowestBarred, stages, verdictOf}
 use Rattle.image.specs.Image.{word, half, used, valueAs, valueAt, checkFor, byteAt, imageOf, headerOf, entryWord, rowsOf, AccessWord, Canonical}
 use Rattle.image.specs.inner.Faultless.{Faultless, Block}
 use Rattle.image.proofs.Inverse.{true-false, neither, chosen, equal, nowhere}

@@ -1,6 +1,6 @@
 -- The contracts of `read`, `write` and `rewrite` allow one answer and one final buffer each. Assumes nothing.
 use Prim.Native.Nat.{ℕ}
-use mathlib.Core.Path.{_≡_, refl, sym, _∙_}
+use mathlib.Core.Path.{_≡_, refl, sym, ap, _∙_}
 use mathlib.Core.List.{List}
 use Rattle.answers.specs.Given.{gives, Delivers}
 use Rattle.answers.specs.declared.Answer.{Answer}
@@ -8,7 +8,7 @@ use Rattle.answers.proofs.Given.{delivers-one}
 use Rattle.image.specs.declared.machine.Header.{Header}
 use Rattle.image.specs.declared.machine.Reading.{Reading}
 use Rattle.image.specs.Image.{imageOf, ReadsTo}
-use Rattle.image.specs.Calls.{writtenBack}
+use Rattle.image.specs.Calls.{headerAs, Rewrites}
 
 pub reads-one : {image rows after after′ : List ℕ} {r r′ : Reading} → ReadsTo image rows r after → ReadsTo image rows r′ after′
     → (r ≡ r′) × (after ≡ after′)
@@ -18,6 +18,8 @@ pub writes-one : (h : Header) (rows : List ℕ) {out after after′ : List ℕ} 
     → Delivers (gives (imageOf h rows) 0 0) out r′ after′ → (r ≡ r′) × (after ≡ after′)
 writes-one h rows = delivers-one refl
 
-pub rewrites-one : (image : List ℕ) {out after after′ : List ℕ} {r r′ : Answer} → Delivers (writtenBack image) out r after
-    → Delivers (writtenBack image) out r′ after′ → (r ≡ r′) × (after ≡ after′)
-rewrites-one image = delivers-one refl
+pub rewrites-one : (image : List ℕ) {out header header′ after after′ : List ℕ} {r r′ : Answer} → Rewrites image out header r after
+    → Rewrites image out header′ r′ after′ → (r ≡ r′) × (header ≡ header′) × (after ≡ after′)
+rewrites-one image a b =
+    let e = delivers-one refl (a .delivered) (b .delivered) in
+    (e .0, a .header-told ∙ ap (headerAs image) (e .0) ∙ sym (b .header-told), e .1)

@@ -11,7 +11,7 @@ use Rattle.ground.specs.Bytes.{at}
 use Rattle.answers.specs.Buffer.{bufferWith}
 use Rattle.answers.specs.declared.Refusal.{Refusal}
 use Rattle.answers.specs.declared.Answer.{Answer}
-use Rattle.answers.specs.Given.{gives, Delivers}
+use Rattle.answers.specs.Given.{gives, Delivers, unlessRefused}
 use Rattle.answers.proofs.Given.{delivers-refusal, delivers-as}
 use Rattle.answers.specs.declared.Verdict.{Verdict}
 use Rattle.operations.specs.Alphabet.{stride}
@@ -19,7 +19,7 @@ use Rattle.image.specs.declared.machine.Header.{Header}
 use Rattle.image.specs.declared.machine.Reading.{Reading}
 use Rattle.layout.specs.Barred.{statesOf, upstreamFencesOf, targetFencesOf, verdictOf}
 use Rattle.image.specs.Image.{imageOf, headerOf, rowsOf, readAs, rowsAs, ReadsTo}
-use Rattle.image.specs.Calls.{backAs, writtenBack, headerAs}
+use Rattle.image.specs.Calls.{writtenBack, headerAs}
 use Rattle.image.proofs.Readings.{length-rows}
 use Rattle.image.proofs.Theorems.{written-read}
 
@@ -51,7 +51,7 @@ module _ (image : List ℕ) (bytes : (i : ℕ) → at image i < 256) where
 
     pub back-refused : (why : Refusal) (out : List ℕ) → r .verdict ≡ Verdict.Refused why → Delivers (writtenBack image) out (Answer.Refused why) out
     unfolding writtenBack
-    back-refused why out v = delivers-as (ap (backAs image) (sym v ∙ verdict-is)) (delivers-refusal out)
+    back-refused why out v = delivers-as (ap (λ (v : Verdict). unlessRefused v (gives image 0 0)) (sym v ∙ verdict-is)) (delivers-refusal out)
 
     module _ (v : r .verdict ≡ Verdict.Accepted) where
       accepted : verdictOf image ≡ Verdict.Accepted
@@ -76,7 +76,7 @@ module _ (image : List ℕ) (bytes : (i : ℕ) → at image i < 256) where
           → Delivers (gives (imageOf (r .header) (take (n * stride) rows′)) 0 0) out a out′ → Delivers (writtenBack image) out a out′
       unfolding writtenBack
       back-accepted n out out′ a e h =
-          delivers-as (ap (λ (l : List ℕ). gives l 0 0) (same-image n e) ∙ ap (backAs image) (sym accepted)) h
+          delivers-as (ap (λ (l : List ℕ). gives l 0 0) (same-image n e) ∙ ap (λ (v : Verdict). unlessRefused v (gives image 0 0)) (sym accepted)) h
 
 -- the four numbers of an image that was written back
 pub header-told : (image : List ℕ) (a : Answer) (n fences state : ℕ) {way states ups targets : ℕ} → a ≡ Answer.Done n fences state

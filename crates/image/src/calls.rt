@@ -2,7 +2,7 @@
 ghost use mathlib.Core.Path.{_≡_};
 ghost use Rattle.ground.specs.Bytes.{at};
 ghost use Rattle.answers.specs.Given.{Delivers};
-ghost use Rattle.image.specs.Calls.{writtenBack, headerAs};
+ghost use Rattle.image.specs.Calls.{writtenBack, headerAs, Rewrites};
 use crate::reader;
 use crate::writer;
 use answers::Answer;
@@ -54,8 +54,7 @@ fn header_of(image: &[u8], answer: Answer) -> [u64; 4]
 
 // Reads an image and writes it back; the header is told with it, zeros where refused.
 pub fn rewrite(image: &[u8], header: &mut [u64; 4], out: &mut [u8]) -> Answer
-    ensures { λ r. ⌜ Delivers (writtenBack (now (image .entry))) (now (out .entry)) r (now (out .exit)) ⌝ }
-    ensures { λ r. ⌜ now (header .exit) ≡ headerAs (now (image .entry)) r ⌝ }
+    ensures { λ r. ⌜ Rewrites (now (image .entry)) (now (out .entry)) (now (header .exit)) r (now (out .exit)) ⌝ }
 {
     let answer = write_back(image, out);
     *header = header_of(image, answer);

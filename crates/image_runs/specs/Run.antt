@@ -11,7 +11,7 @@ use mathlib.Core.Bool.{cond}
 use lib.Dec.{leb, ltb, eqb}
 use lib.ListN.{length}
 use Rattle.ground.specs.Bytes.{at}
-use Rattle.answers.specs.Given.{Given, gives, refuses}
+use Rattle.answers.specs.Given.{Given, gives, refuses, unlessRefused}
 use Rattle.answers.specs.declared.Refusal.{Refusal}
 use Rattle.answers.specs.declared.Verdict.{Verdict}
 use Rattle.operations.specs.declared.Operation.{Operation}
@@ -96,11 +96,11 @@ abbrev pub streamLimit : ℕ
 streamLimit = 4096
 
 abbrev pub runAs : List ℕ → ℕ → List ℕ → Verdict → Given
-runAs image start stream (Verdict.Refused why) = refuses why
-runAs image start stream Verdict.Accepted =
-    cond (ltb start (statesOf image))
+runAs image start stream verdict =
+    unlessRefused verdict
+    (cond (ltb start (statesOf image))
     (cond (leb (length stream) streamLimit) (outcomeOf (walked image start stream)) (refuses Refusal.OverLimit))
-    (refuses Refusal.OutOfRange)
+    (refuses Refusal.OutOfRange))
 
 -- the run over an image
 unfoldable pub runOver : List ℕ → ℕ → List ℕ → Given

@@ -7,11 +7,11 @@ use Rattle.ground.proofs.Truths.{differ}
 use Rattle.answers.specs.declared.Refusal.{Refusal}
 use Rattle.answers.specs.declared.Answer.{Answer}
 use Rattle.answers.specs.declared.Verdict.{Verdict}
-use Rattle.answers.specs.Given.{Given, gives, refuses, Delivers, Answers}
+use Rattle.answers.specs.Given.{Given, gives, refuses, Delivers, Answers, unlessRefused, GivenUnless}
 use Rattle.answers.proofs.Given.{delivers-refusal, delivers-as, answers-refusal, answers-by}
 use Rattle.shims.specs.declared.Models.{Models}
 use Rattle.shims.specs.declared.Opening.{Opening}
-use Rattle.shims.specs.Opening.{unlessRefused, onOpened, GivenUnless, GivenOnOpened}
+use Rattle.shims.specs.Opening.{onOpened, GivenOnOpened}
 
 -- where what is given is a function of the models
 module _ {o p : Opening} (is : o ≡ p) (more : Models → Given) where

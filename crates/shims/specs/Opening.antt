@@ -7,7 +7,7 @@ use mathlib.Core.List.{List}
 use lib.Dec.{eqb}
 use Rattle.answers.specs.declared.Refusal.{Refusal}
 use Rattle.answers.specs.declared.Verdict.{Verdict}
-use Rattle.answers.specs.Given.{Given, refuses}
+use Rattle.answers.specs.Given.{Given, unlessRefused, GivenUnless}
 use Rattle.rule.specs.declared.way.Way.{Way}
 use Rattle.models.specs.declared.model.Model.{Model}
 use Rattle.models.specs.declared.model.Reading.{Reading}
@@ -63,16 +63,8 @@ pub record Opens (read : WayRead) (upstream target : List ℕ) (models : Models)
 
 -- What a call gives that opens so: it goes on with the models, or is the opening's refusal. The same where what is given is told by a property.
 
-abbrev pub unlessRefused : Verdict → Given → Given
-unlessRefused Verdict.Accepted more = more
-unlessRefused (Verdict.Refused why) more = refuses why
-
 abbrev pub onOpened : Opening → (Models → Given) → Given
 onOpened o more = unlessRefused (o .verdict) (more (o .models))
-
-abbrev pub GivenUnless : Verdict → (Given → Type 0) → Given → Type 0
-GivenUnless Verdict.Accepted More g = More g
-GivenUnless (Verdict.Refused why) More g = g ≡ refuses why
 
 abbrev pub GivenOnOpened : Opening → (Models → Given → Type 0) → Given → Type 0
 GivenOnOpened o More = GivenUnless (o .verdict) (More (o .models))

@@ -3,9 +3,8 @@ mod parts;
 
 ghost use Rattle.answers.specs.Given.{gives, Delivers};
 ghost use Rattle.models.specs.Text.{textOf};
-ghost use Rattle.models.specs.Reading.{reading};
 ghost use Rattle.writing.specs.Writing.{described};
-ghost use Rattle.writing.specs.Calls.{textGiven, readingGiven};
+ghost use Rattle.writing.specs.Calls.{readingGiven, backGiven};
 use answers::Answer;
 use answers::Verdict;
 use models::model::Model;
@@ -34,7 +33,7 @@ pub fn write_reading(r: Reading, out: &mut [u8]) -> Answer
 
 // Reads a text and writes it back.
 pub fn rewrite(text: &[u8], out: &mut [u8]) -> Answer
-    ensures { λ a. ⌜ Delivers (textGiven (reading (now (text .entry)) .verdict) (now (text .entry))) (now (out .entry)) a (now (out .exit)) ⌝ }
+    ensures { λ a. ⌜ Delivers (backGiven (now (text .entry))) (now (out .entry)) a (now (out .exit)) ⌝ }
 {
     write_reading(models::reader::read(text), out)
 }

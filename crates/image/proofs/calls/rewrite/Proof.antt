@@ -13,7 +13,7 @@ same-length : tie.Need-same-length
 same-length c = search needs
 
 returns : tie.Need-returns
-returns c = (c .before .before .before .write-back .ensures, c .header-of .ensures)
+returns c = record { delivered = c .before .before .before .write-back .ensures; header-told = c .header-of .ensures }
 
 pub rewrite-spec : {M : Type 1} → statement M
 rewrite-spec = tie.close (tie.spec write-back-requires header-of-requires same-length returns)
