@@ -1,11 +1,14 @@
--- The contract of a call whose promise is a relation allows one returned number, one set of five numbers and one final buffer, where the call
--- below has one answer and one final buffer. Assumes nothing.
+-- Each call's contract allows one returned number, one set of five numbers and one final buffer, since the call below has one answer and one
+-- final buffer. Assumes nothing.
 use Prim.Native.Nat.{ℕ}
-use mathlib.Core.Path.{_≡_, sym, ap, _∙_}
+use mathlib.Core.Path.{_≡_, refl, sym, ap, _∙_}
 use mathlib.Core.List.{List}
 use Rattle.answers.specs.declared.Answer.{Answer}
 use Rattle.answers.specs.Answer.{numbersOf}
-use Rattle.answers.specs.Given.{Answers}
+use Rattle.answers.specs.Given.{Given, Delivers, Answers}
+use Rattle.answers.proofs.Given.{delivers-one}
+use Rattle.image.specs.Calls.{Rewrites}
+use Rattle.image.proofs.Unique.{rewrites-one}
 use Rattle.listing.specs.Listed.{Listed}
 use Rattle.listing.proofs.Unique.{one-answer}
 use Rattle.generation.specs.Generating.{ImageGiven}
@@ -26,7 +29,24 @@ tells-one one a b =
       e .1,
     )
 
--- so `shim_list` tells one thing
+-- so a call tells one thing that delivers what its inputs determine: `shim_builtin`, `shim_model`, `shim_run`, `shim_image_run`
+pub delivered-one : (g : Given) {out : List ℕ} {n n′ : ℕ} {numbers numbers′ after after′ : List ℕ} → Tells (Delivers g out) n numbers after
+    → Tells (Delivers g out) n′ numbers′ after′ → (n ≡ n′) × (numbers ≡ numbers′) × (after ≡ after′)
+delivered-one g a b = tells-one (λ x y s t p q. delivers-one refl p q) a b
+
+-- and `shim_image_read`, with its header
+pub image-read-one : (image : List ℕ) {out header header′ : List ℕ} {n n′ : ℕ} {numbers numbers′ after after′ : List ℕ}
+    → Tells (Rewrites image out header) n numbers after → Tells (Rewrites image out header′) n′ numbers′ after′
+    → (n ≡ n′) × (numbers ≡ numbers′) × (header ≡ header′) × (after ≡ after′)
+image-read-one image a b =
+    let e = rewrites-one image (a .promised) (b .promised) in (
+      a .returned ∙ ap numberIn (e .0) ∙ sym (b .returned),
+      a .told ∙ ap numbersOf (e .0) ∙ sym (b .told),
+      e .1,
+      e .2,
+    )
+
+-- and `shim_list`
 pub list-one : {input out : List ℕ} {n n′ : ℕ} {numbers numbers′ after after′ : List ℕ} → Tells (Answers (Listed input) out) n numbers after
     → Tells (Answers (Listed input) out) n′ numbers′ after′ → (n ≡ n′) × (numbers ≡ numbers′) × (after ≡ after′)
 list-one a b = tells-one (λ x y s t p q. one-answer p q) a b
