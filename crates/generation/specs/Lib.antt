@@ -1,1 +1,4 @@
+pub mod Made
 pub mod Generating
+pub mod Imaged
+pub mod inner
