@@ -6,7 +6,7 @@ use mathlib.Core.List.{List}
 use native.Mathlib.Omega.{arith}
 use Rattle.answers.specs.declared.Refusal.{Refusal}
 use Rattle.answers.specs.declared.Answer.{Answer}
-use Rattle.answers.specs.Given.{Given, gives, refuses, Delivers}
+use Rattle.answers.specs.Given.{gives, refuses, Delivers, Answers}
 use Rattle.answers.proofs.Given.{delivers-refusal, delivers-as}
 use Rattle.rule.specs.declared.way.Way.{Way}
 use Rattle.rule.specs.Rule.{wayNumber}
@@ -17,8 +17,8 @@ use Rattle.machine.specs.declared.machine.Outcome.{Outcome}
 use Rattle.machine.proofs.Zeros.{at-most-sixteen}
 use Rattle.image.specs.declared.machine.Header.{Header}
 use Rattle.image.specs.Image.{imageOf}
-use Rattle.generation.specs.Made.{MachineMade}
-use Rattle.generation.specs.Generating.{headerFor, givenBy}
+use Rattle.making.specs.Made.{MachineMade}
+use Rattle.generation.specs.Generating.{headerFor, givenBy, blank, MachineGiven}
 use Rattle.generation.specs.inner.Small.{SmallMade}
 
 module _ (m : Models) (rows : List ℕ) {o : Outcome} where
@@ -41,12 +41,19 @@ way-small Way.Full = omega arith
 
 pub small-made : (m : Models) (rows : List ℕ) (o : Outcome) (rows′ : List ℕ) → MachineMade m rows o rows′ → SmallMade o
 small-made m rows (Outcome.Made x) rows′ made =
+    let g = made .generated in
     record {
-      way = omega (arith, made .way-number, way-small (m .way));
-      states = omega (arith, made .few-states);
-      ups = omega (arith, made .its-ups, at-most-sixteen (modelOf (m .upstream) .fences) refl);
-      targets = omega (arith, made .its-targets, at-most-sixteen (modelOf (m .target) .fences) refl);
+      way = omega (arith, g .way-number, way-small (m .way));
+      states = omega (arith, g .few-states);
+      ups = omega (arith, g .its-ups, at-most-sixteen (modelOf (m .upstream) .fences) refl);
+      targets = omega (arith, g .its-targets, at-most-sixteen (modelOf (m .target) .fences) refl);
     }
 small-made m rows Outcome.Situations rows′ made = tt
 small-made m rows Outcome.States rows′ made = tt
 small-made m rows Outcome.Room rows′ made = tt
+
+-- what is delivered once the machine is made, or cannot be, is what is given
+pub given-made : {m : Models} {o : Outcome} {rows out after : List ℕ} {r : Answer} → MachineMade m blank o rows
+    → Delivers (givenBy o m rows) out r after → Answers (MachineGiven m) out r after
+given-made {m} {o} {rows} made d =
+    record { given = givenBy o m rows; right = record { outcome = o; rows = rows; made = made; gives-it = refl }; delivered = d }

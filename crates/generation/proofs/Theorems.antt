@@ -7,7 +7,6 @@ use native.Mathlib.Omega.{arith}
 use native.Mathlib.Decide.{decLt}
 use borrow.Author.Tests.{lt-ltb, le-ltb, le-leb, lt-leb}
 use lib.ListN.{length, take, length-replicate}
-use lib.Seq.{take-all}
 use Rattle.ground.proofs.Truths.{differ}
 use Rattle.answers.specs.declared.Refusal.{Refusal}
 use Rattle.answers.specs.Given.{Given, gives, refuses}
@@ -28,13 +27,13 @@ use Rattle.shims.proofs.Theorems.{opens, opens-so}
 use Rattle.runs.specs.Bytes.{direct}
 use Rattle.runs.specs.Call.{runGiven, outcome}
 use Rattle.runs.proofs.ByMoves.{direct-moves}
-use Rattle.machine.specs.declared.machine.Machine.{Machine}
 use Rattle.machine.specs.declared.machine.Outcome.{Outcome}
-use Rattle.machine.specs.Shim.{shim, shimOf}
-use Rattle.machine.specs.Generated.{Making, Built, named}
+use Rattle.machine.specs.Shim.{shim}
+use Rattle.machine.specs.Generated.{Making, named}
 use Rattle.machine.specs.Counted.{ManySituations, ManyStates}
 use Rattle.machine.proofs.Theorems.{refused-8-exactly-when, refused-9-exactly-when}
-use Rattle.generation.specs.Made.{MachineMade}
+use Rattle.making.specs.Made.{MachineMade}
+use Rattle.making.proofs.Read.{made-read}
 use Rattle.image.specs.declared.machine.Header.{Header}
 use Rattle.layout.specs.Layout.{blocksFor}
 use Rattle.layout.specs.Barred.{statesOf, verdictOf}
@@ -56,7 +55,7 @@ imaged number upstream target image fences state h =
     let o = given-opened call MachineGiven image fences state h in
     by-outcome (opens (wayOf number) upstream target (o .0)) (o .1 .outcome) (o .1 .rows) (o .1 .made) (o .1 .gives-it)
   where
-    abbrev call : Opening
+    call : Opening
     call = opened number upstream target
 
     by-outcome : Opens (wayOf number) upstream target (call .models) → (o : Outcome) (rows : List ℕ) → MachineMade (call .models) blank o rows
@@ -87,12 +86,7 @@ module _ {number : ℕ} {upstream target image : List ℕ} (call : Imaged number
   on-few = few-fences (call .models .target) (few-read target (call .opens .target-read))
 
   making : Making (shim way up on) way (length (up .fences)) (length (on .fences)) blank (call .machine) (call .rows)
-  making =
-      subst₂
-      (λ (a b : List ℕ). Built (shimOf (shimBetween (call .models)) a b) way (length a) (length b) blank (Outcome.Made (call .machine)) (call .rows))
-      (take-all 16 (up .fences) ups-few)
-      (take-all 16 (on .fences) on-few)
-      (call .made)
+  making = made-read (call .models) (few-read upstream (call .opens .upstream-read)) (few-read target (call .opens .target-read)) (call .made)
 
   abbrev header : Header
   header = headerFor (call .machine) (call .models)
@@ -203,7 +197,7 @@ module _ (models : Models) (given : Given) (is : MachineGiven models given) wher
       (λ e. exactly .0 (situations (is .outcome) (sym (is .gives-it) ∙ e)), λ m. is .gives-it ∙ ap made-of (exactly .1 m))
     where
       exactly : (is .outcome ≡ Outcome.Situations) ↔ ManySituations (models .way) from to
-      exactly = refused-8-exactly-when shims ups targets blank (is .outcome) (is .rows) (is .made)
+      exactly = refused-8-exactly-when shims ups targets blank (is .outcome) (is .rows) (is .made .generated)
 
       situations : (o : Outcome) → made-of o ≡ refuses Refusal.TooManySituations → o ≡ Outcome.Situations
       situations (Outcome.Made x) e = differ (cc)
@@ -219,7 +213,7 @@ module _ (models : Models) (given : Given) (is : MachineGiven models given) wher
     where
       exactly : (is .outcome ≡ Outcome.States)
           ↔ ((ManySituations (models .way) from to → ⊥) × ManyStates (models .way) from to)
-      exactly = refused-9-exactly-when shims ups targets blank (is .outcome) (is .rows) (is .made)
+      exactly = refused-9-exactly-when shims ups targets blank (is .outcome) (is .rows) (is .made .generated)
 
       states : (o : Outcome) → made-of o ≡ refuses Refusal.TooManyStates → o ≡ Outcome.States
       states (Outcome.Made x) e = differ (cc)
@@ -235,4 +229,4 @@ module _ (models : Models) (given : Given) (is : MachineGiven models given) wher
       look (Outcome.Made x) g h = differ (cc)
       look Outcome.Situations g h = differ (cc)
       look Outcome.States g h = differ (cc)
-      look Outcome.Room g h = omega (arith, g .short, g .few-states, length-replicate {A = ℕ} 5100 0)
+      look Outcome.Room g h = omega (arith, g .generated .short, g .generated .few-states, length-replicate {A = ℕ} 5100 0)

@@ -6,17 +6,15 @@ use Rattle.answers.specs.declared.Answer.{Answer}
 use Rattle.answers.specs.Given.{Given, Answers}
 use Rattle.answers.proofs.Given as given
 use Rattle.shims.specs.declared.Models.{Models}
-use Rattle.shims.specs.Models.{modelOf, shimBetween}
 use Rattle.shims.specs.Opening.{opened}
 use Rattle.shims.proofs.Calls.{given-one}
 use Rattle.machine.specs.declared.machine.Outcome.{Outcome}
-use Rattle.machine.proofs.Unique.{generated-unique}
+use Rattle.making.proofs.Unique.{made-one}
 use Rattle.generation.specs.Generating.{givenBy, blank, MachineGiven, ImageGiven}
 
 machine-one : (m : Models) (g h : Given) → MachineGiven m g → MachineGiven m h → g ≡ h
 machine-one m g h a b =
-    let e = generated-unique (shimBetween m) (modelOf (m .upstream) .fences) (modelOf (m .target) .fences) blank (a .outcome) (b .outcome)
-    (a .made) (b .made) in
+    let e = made-one m blank (a .outcome) (b .outcome) (a .made) (b .made) in
     a .gives-it
     ∙ ap₂ (λ (o : Outcome) (rows : List ℕ). givenBy o m rows) (e .0) (e .1)
     ∙ sym (b .gives-it)

@@ -10,7 +10,7 @@ use Rattle.shims.specs.declared.Models.{Models}
 use Rattle.shims.specs.Opening.{opened, GivenOnOpened}
 use Rattle.machine.specs.declared.machine.Machine.{Machine}
 use Rattle.machine.specs.declared.machine.Outcome.{Outcome}
-use Rattle.generation.specs.Made.{MachineMade}
+use Rattle.making.specs.Made.{MachineMade}
 use Rattle.image.specs.declared.machine.Header.{Header}
 use Rattle.image.specs.Image.{imageOf}
 

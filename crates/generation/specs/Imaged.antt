@@ -8,7 +8,7 @@ use Rattle.shims.specs.declared.Models.{Models}
 use Rattle.shims.specs.Opening.{wayOf, Opens}
 use Rattle.machine.specs.declared.machine.Machine.{Machine}
 use Rattle.machine.specs.declared.machine.Outcome.{Outcome}
-use Rattle.generation.specs.Made.{MachineMade}
+use Rattle.making.specs.Made.{MachineMade}
 use Rattle.image.specs.Image.{imageOf}
 use Rattle.generation.specs.Generating.{headerFor, blank}
 

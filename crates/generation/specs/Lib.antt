@@ -1,4 +1,3 @@
-pub mod Made
 pub mod Generating
 pub mod Imaged
 pub mod inner

@@ -1,7 +1,6 @@
 // Generating to an image: two model texts, a way and a buffer.
 ghost use mathlib.Core.Path.{_≡_};
 ghost use Rattle.answers.specs.Given.{Delivers, Answers};
-ghost use Rattle.generation.specs.Made.{MachineMade};
 ghost use Rattle.generation.specs.Generating.{headerFor, givenBy, MachineGiven, ImageGiven};
 ghost use Rattle.generation.specs.inner.Small.{Small, SmallMade};
 use answers::Answer;
@@ -12,12 +11,6 @@ use machine::machine::Machine;
 use machine::machine::Outcome;
 use shims::Models;
 
-fn make(models: Models, rows: &mut [u16]) -> Outcome
-    ensures { λ r. ⌜ MachineMade models (now (rows .entry)) r (now (rows .exit)) ⌝ }
-{
-    Outcome::Room
-}
-
 // What block 0 says of a machine and of its models' names.
 fn header_for(machine: Machine, models: Models) -> Header
     requires { ⌜ Small machine ⌝ }
@@ -25,15 +18,17 @@ fn header_for(machine: Machine, models: Models) -> Header
 {
     let up = models.upstream;
     let on = models.target;
-    let first = up.name;
-    let second = on.name;
+    let up_name = up.name;
+    let on_name = on.name;
+    let first = up_name.bytes;
+    let second = on_name.bytes;
     Header {
         way: machine.way as u8,
         states: machine.states as u8,
         ups: machine.ups as u8,
         targets: machine.targets as u8,
-        upstream: first.bytes,
-        target: second.bytes,
+        upstream: first,
+        target: second,
     }
 }
 
@@ -55,7 +50,7 @@ fn generate_models(models: Models, out: &mut [u8]) -> Answer
     ensures { λ r. ⌜ Answers (MachineGiven models) (now (out .entry)) r (now (out .exit)) ⌝ }
 {
     let mut rows = [0u16; 5100];
-    let made = make(models, &mut rows);
+    let made = making::make(models, &mut rows);
     write_made(made, models, &rows, out)
 }
 
