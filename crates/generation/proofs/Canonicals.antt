@@ -1,5 +1,5 @@
--- What is made of two models that were read is a machine of the layout: their names fill their fields, and every word of the rows is an access's or an
--- upstream fence's. Assumes nothing.
+-- What is made of two models that were read is a machine of the layout: their names fill their fields, and every word of the rows is an access's or
+-- an upstream fence's. Assumes nothing.
 use Prim.Native.Nat.{ℕ, _+_, _-_, _≤_, _<_}
 use mathlib.Core.Path.{_≡_, refl, sym, ap, subst, _∙_}
 use mathlib.Core.Logic.{inl, inr}

@@ -39,7 +39,8 @@ use Rattle.image.specs.Image.{word, imageOf, Canonical}
 use Rattle.image_runs.specs.Run.{accessStep, stepAs, stepAt, Walked, ended, stopped, walkedOn, resumed, walked, refusalOf}
 use Rattle.image.proofs.Canonicals.{ups-image, fence-image, next-image, onward-image}
 use Rattle.image_runs.proofs.Steps.{step-refused, step-plain, step-fenced}
-use Rattle.generation.proofs.Standing.{decoded-taken, decoded-refused, access-step, fence-step, letter-small, access-small, Stands, Alike, halt, lead, alike}
+use Rattle.generation.proofs.Standing as standing
+use Rattle.generation.proofs.Standing.{decoded-taken, decoded-refused, access-step, fence-step, Stands, Alike, halt, lead, alike}
 
 module _ (way : Way) (up target : Model) (ups-few : length (up .fences) ≤ 16) (few : length (target .fences) ≤ 16)
     {x : Machine} {blank rows : List ℕ}
@@ -132,11 +133,11 @@ module _ (way : Way) (up target : Model) (ups-few : length (up .fences) ≤ 16) 
   by-access b i n s st k z =
       let l : n < h .states = omega (arith, states, st .within) in
       subst₂ (λ (f m : ℕ). Simulated b i (accessStep f m) (accessing b i (stepped way (up .ppo) target s k)))
-      (sym (fence-image h rows can n (letterOf k) l (access-small k)))
-      (sym (next-image h rows can n (letterOf k) l (access-small k)))
+      (sym (fence-image h rows can n (letterOf k) l (standing.access-small k)))
+      (sym (next-image h rows can n (letterOf k) l (standing.access-small k)))
       (by-choice b i (word rows n (letterOf k)) s k z (choiceOf way (target .fences) (pending k s)) refl
       (subst (Alike way up target made (decoded (word rows n (letterOf k)))) (access-step way up target s k)
-      (alike way up target made n s st (letterOf k) (letter-small up k))))
+      (alike way up target made n s st (letterOf k) (standing.letter-small up k))))
 
   by-fence : (b i n : ℕ) (s : Situation) → For n s → (f : ℕ)
       → Simulated b i (stepAs image n (Byte.Is (Operation.Fence f))) (directly b i s (Byte.Is (Operation.Fence f)))
@@ -161,7 +162,8 @@ module _ (way : Way) (up target : Model) (ups-few : length (up .fences) ≤ 16) 
           passed (lead o j t p q to) =
               let d = decoded-taken _ o j p in
               let e : t ≡ asks (fenceTable up f) s = cc in
-              silent b i (subst₂ For (sym (d .1)) e to)
+              subst₂ (λ (m : ℕ) (t : Situation). Simulated b i (Step.Taken (Move.Passed m)) (λ (more : Situation → Given). more t)) (sym (d .1)) e
+              (silent b i to)
 
   simulated : (b i n : ℕ) (s : Situation) → For n s → Simulated b i (stepAt image n b) (directly b i s (byteIs b))
   unfolding stepAt
@@ -176,5 +178,6 @@ module _ (way : Way) (up target : Model) (ups-few : length (up .fences) ≤ 16) 
   unfolding walked moves fenceBytes
   runs-alike [] i n s st = ends {n = 0} {t = n} (omega (arith, states, st .within))
   runs-alike (b ∷ bytes) i n s st =
-      simulated b i n s st (λ (m : ℕ). walked image m bytes) (λ (t : Situation). moves way up target t (suc i) bytes)
+      let one = simulated b i n s st in
+      one (λ (m : ℕ). walked image m bytes) (λ (t : Situation). moves way up target t (suc i) bytes)
       (λ m t to. runs-alike bytes (suc i) m t to)

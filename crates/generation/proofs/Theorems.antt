@@ -172,8 +172,8 @@ module _ {number : ℕ} {upstream target image : List ℕ} (call : Imaged number
 
 -- When there is no image: of two models and a way.
 module _ (models : Models) (given : Given) (is : MachineGiven models given) where
-  abbrev shims : Shim
-  shims = shimBetween models
+  abbrev the-shim : Shim
+  the-shim = shimBetween models
 
   abbrev ups : List ℕ
   ups = modelOf (models .upstream) .fences
@@ -182,22 +182,22 @@ module _ (models : Models) (given : Given) (is : MachineGiven models given) wher
   targets = modelOf (models .target) .fences
 
   -- the two models, of whose fences an operation can name the first sixteen
-  abbrev from : Model
-  from = upstreamOf shims (named ups)
+  abbrev the-upstream : Model
+  the-upstream = upstreamOf the-shim (named ups)
 
-  abbrev to : Model
-  to = targetOf shims (named targets)
+  abbrev the-target : Model
+  the-target = targetOf the-shim (named targets)
 
   abbrev made-of : Outcome → Given
   made-of o = givenBy o models (is .rows)
 
   -- Refusal 8 is given exactly when more than 4,096 situations can be reached.
-  pub gives-8-exactly-when : (given ≡ refuses Refusal.TooManySituations) ↔ ManySituations (models .way) from to
+  pub gives-8-exactly-when : (given ≡ refuses Refusal.TooManySituations) ↔ ManySituations (models .way) the-upstream the-target
   gives-8-exactly-when =
       (λ e. exactly .0 (situations (is .outcome) (sym (is .gives-it) ∙ e)), λ m. is .gives-it ∙ ap made-of (exactly .1 m))
     where
-      exactly : (is .outcome ≡ Outcome.Situations) ↔ ManySituations (models .way) from to
-      exactly = refused-8-exactly-when shims ups targets blank (is .outcome) (is .rows) (is .made .generated)
+      exactly : (is .outcome ≡ Outcome.Situations) ↔ ManySituations (models .way) the-upstream the-target
+      exactly = refused-8-exactly-when the-shim ups targets blank (is .outcome) (is .rows) (is .made .generated)
 
       situations : (o : Outcome) → made-of o ≡ refuses Refusal.TooManySituations → o ≡ Outcome.Situations
       situations (Outcome.Made x) e = differ (cc)
@@ -207,13 +207,13 @@ module _ (models : Models) (given : Given) (is : MachineGiven models given) wher
 
   -- Refusal 9 is given exactly when the situations are not too many and the states are more than 255.
   pub gives-9-exactly-when : (given ≡ refuses Refusal.TooManyStates)
-      ↔ ((ManySituations (models .way) from to → ⊥) × ManyStates (models .way) from to)
+      ↔ ((ManySituations (models .way) the-upstream the-target → ⊥) × ManyStates (models .way) the-upstream the-target)
   gives-9-exactly-when =
       (λ e. exactly .0 (states (is .outcome) (sym (is .gives-it) ∙ e)), λ m. is .gives-it ∙ ap made-of (exactly .1 m))
     where
       exactly : (is .outcome ≡ Outcome.States)
-          ↔ ((ManySituations (models .way) from to → ⊥) × ManyStates (models .way) from to)
-      exactly = refused-9-exactly-when shims ups targets blank (is .outcome) (is .rows) (is .made .generated)
+          ↔ ((ManySituations (models .way) the-upstream the-target → ⊥) × ManyStates (models .way) the-upstream the-target)
+      exactly = refused-9-exactly-when the-shim ups targets blank (is .outcome) (is .rows) (is .made .generated)
 
       states : (o : Outcome) → made-of o ≡ refuses Refusal.TooManyStates → o ≡ Outcome.States
       states (Outcome.Made x) e = differ (cc)

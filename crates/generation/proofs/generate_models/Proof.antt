@@ -20,7 +20,9 @@ same-length : tie.Need-same-length
 same-length c = search needs
 
 returns : tie.Need-returns
-returns c = given-made (c .before .before .before .before .before .before .make .ensures) (c .before .before .write-made .ensures)
+returns c =
+    let wrote = c .before .before in
+    given-made (wrote .before .before .before .before .make .ensures) (wrote .write-made .ensures)
 
 pub generate-models-spec : {M : Type 1} → statement M
 generate-models-spec =
