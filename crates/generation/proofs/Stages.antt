@@ -1,76 +1,59 @@
--- The stages of the call, each once it is known how it goes. Assumes nothing.
+-- The stages of the call: what is delivered for an outcome is delivered for one that is equal to it, and the numbers of a machine that is made fit a
+-- byte, since its way is 0 or 1, its states are at most 255, and an operation names sixteen fences at most. Assumes nothing.
 use Prim.Native.Nat.{ℕ, _<_}
-use mathlib.Core.Path.{_≡_, refl, sym, ap, subst, _∙_}
+use mathlib.Core.Path.{_≡_, refl, sym, ap, _∙_}
 use mathlib.Core.List.{List}
 use native.Mathlib.Omega.{arith}
 use Rattle.answers.specs.declared.Refusal.{Refusal}
 use Rattle.answers.specs.declared.Answer.{Answer}
-use Rattle.answers.specs.Given.{Given, refuses, Answers}
-use Rattle.answers.proofs.Given.{answers-refusal, answers-by, Answered, answered-same}
-use Rattle.answers.specs.declared.Verdict.{Verdict}
-use Rattle.tables.specs.declared.table.Table.{Table}
+use Rattle.answers.specs.Given.{gives, refuses, Delivers, Answers}
+use Rattle.answers.proofs.Given.{delivers-refusal, delivers-as}
 use Rattle.rule.specs.declared.way.Way.{Way}
 use Rattle.rule.specs.Rule.{wayNumber}
-use Rattle.models.specs.declared.model.Model.{Model}
-use Rattle.models.specs.declared.model.Name.{Name}
-use Rattle.models.specs.declared.model.Reading.{Reading}
-use Rattle.models.specs.Reading.{reading}
-use Rattle.runs.specs.declared.WayRead.{WayRead}
-use Rattle.runs.specs.Call.{wayOf}
+use Rattle.shims.specs.declared.Models.{Models}
+use Rattle.shims.specs.Models.{modelOf}
+use Rattle.machine.specs.declared.machine.Machine.{Machine}
 use Rattle.machine.specs.declared.machine.Outcome.{Outcome}
-use Rattle.machine.specs.Generated.{Generated}
 use Rattle.machine.proofs.Zeros.{at-most-sixteen}
-use Rattle.generation.specs.Generating.{givenBy, onWay, onVerdict, GivenUnder, ImageGiven, SmallMade}
+use Rattle.image.specs.declared.machine.Header.{Header}
+use Rattle.image.specs.Image.{imageOf}
+use Rattle.making.specs.Made.{MachineMade}
+use Rattle.generation.specs.Generating.{headerFor, givenBy, blank, MachineGiven}
+use Rattle.generation.specs.inner.Small.{SmallMade}
 
--- what is answered for an outcome is answered for one that is equal to it
-pub answers-so : (upstream target : Name) (rows out : List ℕ) {x y : Outcome} {r : Answer} {after : List ℕ} → x ≡ y
-    → Answered (givenBy y upstream target rows) out r after → Answered (givenBy x upstream target rows) out r after
-answers-so upstream target rows out e h = answered-same _ _ out _ _ (ap (λ (z : Outcome). givenBy z upstream target rows) (sym e)) h
+module _ (m : Models) (rows : List ℕ) {o : Outcome} where
+  -- no machine is made
+  pub none-made : {why : Refusal} {p : Outcome} {out : List ℕ} → o ≡ p → givenBy p m rows ≡ refuses why
+      → Delivers (givenBy o m rows) out (Answer.Refused why) out
+  none-made {out = out} e f = delivers-as (sym (ap (λ (p : Outcome). givenBy p m rows) e ∙ f)) (delivers-refusal out)
+
+  -- one is made, and its image is written
+  pub one-made : {x : Machine} {h : Header} {out after : List ℕ} {r : Answer} → o ≡ Outcome.Made x → h ≡ headerFor x m
+      → Delivers (gives (imageOf h rows) 0 0) out r after → Delivers (givenBy o m rows) out r after
+  one-made e f d =
+      delivers-as
+      (ap (λ (h : Header). gives (imageOf h rows) 0 0) f ∙ sym (ap (λ (p : Outcome). givenBy p m rows) e))
+      d
 
 way-small : (way : Way) → wayNumber way < 256
 way-small Way.Sparing = omega arith
 way-small Way.Full = omega arith
 
--- what is made has numbers that fit a byte
-pub small-made : (way : Way) (up : Table) (ups : List ℕ) (target : Table) (fences rows : List ℕ) (r : Outcome) (rows′ : List ℕ)
-    → Generated way up ups target fences rows r rows′ → SmallMade r
-small-made way up ups target fences rows (Outcome.Made x) rows′ g =
+pub small-made : (m : Models) (rows : List ℕ) (o : Outcome) (rows′ : List ℕ) → MachineMade m rows o rows′ → SmallMade o
+small-made m rows (Outcome.Made x) rows′ made =
+    let g = made .generated in
     record {
-      way = omega (arith, g .way-number, way-small way);
+      way = omega (arith, g .way-number, way-small (m .way));
       states = omega (arith, g .few-states);
-      ups = omega (arith, g .its-ups, at-most-sixteen ups refl);
-      targets = omega (arith, g .its-targets, at-most-sixteen fences refl);
+      ups = omega (arith, g .its-ups, at-most-sixteen (modelOf (m .upstream) .fences) refl);
+      targets = omega (arith, g .its-targets, at-most-sixteen (modelOf (m .target) .fences) refl);
     }
-small-made way up ups target fences rows Outcome.Situations rows′ g = tt
-small-made way up ups target fences rows Outcome.States rows′ g = tt
-small-made way up ups target fences rows Outcome.Room rows′ g = tt
+small-made m rows Outcome.Situations rows′ made = tt
+small-made m rows Outcome.States rows′ made = tt
+small-made m rows Outcome.Room rows′ made = tt
 
--- a text that was read, and what is given of its model
-module _ (t : List ℕ) {r : Reading} (e : r ≡ reading t) (Of : Model → Given → Type 0) (out : List ℕ) where
-  pub reading-refused : {why : Refusal} → r .verdict ≡ Verdict.Refused why
-      → Answers (onVerdict (reading t .verdict) (Of (reading t .model))) out (Answer.Refused why) out
-  reading-refused {why} h =
-      let v : reading t .verdict ≡ Verdict.Refused why = sym (ap (λ (x : Reading). x .verdict) e) ∙ h in
-      answers-refusal (onVerdict (reading t .verdict) (Of (reading t .model))) out
-      (subst (λ (x : Verdict). onVerdict x (Of (reading t .model)) (refuses why)) (sym v) refl)
-
-  pub reading-accepted : {a : Answer} {after : List ℕ} → r .verdict ≡ Verdict.Accepted → Answers (Of (r .model)) out a after
-      → Answers (onVerdict (reading t .verdict) (Of (reading t .model))) out a after
-  reading-accepted h =
-      let v : reading t .verdict ≡ Verdict.Accepted = sym (ap (λ (x : Reading). x .verdict) e) ∙ h in
-      answers-by
-      (λ g right.
-      subst (λ (x : Verdict). onVerdict x (Of (reading t .model)) g) (sym v)
-      (subst (λ (x : Reading). Of (x .model) g) e right))
-
--- the way's number
-module _ (number : ℕ) (upstream target out : List ℕ) {r : WayRead} (e : r ≡ wayOf number) where
-  pub no-way : r ≡ WayRead.Nothing → Answers (ImageGiven number upstream target) out (Answer.Refused Refusal.OutOfRange) out
-  no-way h =
-      answers-refusal (ImageGiven number upstream target) out
-      (subst (λ (x : WayRead). onWay x (λ (way : Way). GivenUnder way upstream target) (refuses Refusal.OutOfRange)) (sym h ∙ e) refl)
-
-  pub the-way : {way : Way} {a : Answer} {after : List ℕ} → r ≡ WayRead.Is way → Answers (GivenUnder way upstream target) out a after
-      → Answers (ImageGiven number upstream target) out a after
-  the-way h =
-      answers-by (λ g right. subst (λ (x : WayRead). onWay x (λ (way : Way). GivenUnder way upstream target) g) (sym h ∙ e) right)
+-- what is delivered once the machine is made, or cannot be, is what is given
+pub given-made : {m : Models} {o : Outcome} {rows out after : List ℕ} {r : Answer} → MachineMade m blank o rows
+    → Delivers (givenBy o m rows) out r after → Answers (MachineGiven m) out r after
+given-made {m} {o} {rows} made d =
+    record { given = givenBy o m rows; right = record { outcome = o; rows = rows; made = made; gives-it = refl }; delivered = d }

@@ -20,7 +20,7 @@ use Rattle.mealy.proofs.Runs.{untaken, same-eq, same-trans, same-refused, same-
 use Rattle.mealy.proofs.Describing.{Stepped, neither, both, numbered-step, stepped as row-stepped, starts}
 use Rattle.machine.specs.declared.machine.Machine.{Machine}
 use Rattle.machine.specs.Shim.{stepAnswer, lettersOf, shim}
-use Rattle.machine.specs.Rows.{decoded, rowOf}
+use Rattle.machine.specs.Rows.{decoded, answerAt}
 use Rattle.machine.specs.Generated.{Making}
 
 -- what a word says of its halves
@@ -83,16 +83,16 @@ module _ (way : Way) (up target : Model) {x : Machine} {blank rows : List ℕ}
     halt : r ≡ refused → y ≡ refused → Alike r y
     lead : (o j : ℕ) (t : Situation) → r ≡ taken o j → y ≡ taken o t → Stands j t → Alike r y
 
-  pub alike : (i : ℕ) (s : Situation) → Stands i s → (a : ℕ) → a < lettersOf up → Alike (rowOf rows i a) (m .step s a)
+  pub alike : (i : ℕ) (s : Situation) → Stands i s → (a : ℕ) → a < lettersOf up → Alike (answerAt rows i a) (m .step s a)
   alike i s st a l = look (row-stepped m (Same m) (made .states) i a (st .within))
     where
       row : Mealy ℕ ℕ
-      row = numbered (lettersOf up) (rowOf rows)
+      row = numbered (lettersOf up) (answerAt rows)
 
       look : Stepped m (Same m) (made .states .streams) (x .states) (row .step i a) (m .step (arrival m (made .states .streams) i) a)
-          → Alike (rowOf rows i a) (m .step s a)
-      look (neither e f) = halt (sym (numbered-step (lettersOf up) (rowOf rows) i a l) ∙ e) (same-refused m a (st .same) f)
+          → Alike (answerAt rows i a) (m .step s a)
+      look (neither e f) = halt (sym (numbered-step (lettersOf up) (answerAt rows) i a l) ∙ e) (same-refused m a (st .same) f)
       look (both o j t e f q r) =
           let there = same-taken m a (st .same) f in
-          lead o j (there .0) (sym (numbered-step (lettersOf up) (rowOf rows) i a l) ∙ e) (there .1)
+          lead o j (there .0) (sym (numbered-step (lettersOf up) (answerAt rows) i a l) ∙ e) (there .1)
           (record { within = q; same = same-trans m r (there .2) })

@@ -11,203 +11,193 @@ use Rattle.ground.proofs.Truths.{differ}
 use Rattle.answers.specs.declared.Refusal.{Refusal}
 use Rattle.answers.specs.Given.{Given, gives, refuses}
 use Rattle.answers.specs.declared.Verdict.{Verdict}
-use Rattle.answers.specs.declared.Verdict as image-verdict
 use Rattle.operations.specs.Alphabet.{stride}
 use Rattle.rule.specs.declared.way.Way.{Way}
-use Rattle.rule.specs.Pairs as rule
+use Rattle.rule.specs.declared.way.Shim.{Shim}
+use Rattle.rule.specs.Pairs.{Model}
+use Rattle.rule.specs.Sides.{upstreamOf, targetOf}
 use Rattle.rule.specs.Situation.{fresh}
-use Rattle.models.specs.declared.model.Model.{Model}
-use Rattle.models.specs.Reading.{reading}
-use Rattle.models.proofs.Words.{told}
-use Rattle.runs.specs.declared.WayRead.{WayRead}
-use Rattle.runs.specs.Bytes.{fenceBytes, Outcome as Directly, put, refuse, direct}
-use Rattle.runs.specs.Call.{wayOf, modelOf, outcome}
+use Rattle.shims.specs.declared.Models.{Models}
+use Rattle.shims.specs.declared.Opening.{Opening}
+use Rattle.shims.specs.Models.{modelOf, shimBetween}
+use Rattle.shims.specs.Opening.{wayOf, opened, onOpened, Opens}
+use Rattle.shims.proofs.Calls.{given-opened}
+use Rattle.shims.proofs.Fences.{few-read, few-fences}
+use Rattle.shims.proofs.Theorems.{opens, opens-so}
+use Rattle.runs.specs.Bytes.{direct}
+use Rattle.runs.specs.Call.{runGiven, outcome}
 use Rattle.runs.proofs.ByMoves.{direct-moves}
-use Rattle.runs.proofs.Whole.{whole-when}
-use Rattle.machine.specs.declared.machine.Machine.{Machine}
 use Rattle.machine.specs.declared.machine.Outcome.{Outcome}
-use Rattle.machine.specs.Shim.{shim, shimOf}
-use Rattle.machine.specs.Generated.{Making, Built, Generated}
+use Rattle.machine.specs.Shim.{shim}
+use Rattle.machine.specs.Generated.{Making, named}
 use Rattle.machine.specs.Counted.{ManySituations, ManyStates}
-use Rattle.machine.proofs.Theorems.{modelOf as namedModel, refused-8-exactly-when, refused-9-exactly-when}
+use Rattle.machine.proofs.Theorems.{refused-8-exactly-when, refused-9-exactly-when}
+use Rattle.making.specs.Made.{MachineMade}
+use Rattle.making.proofs.Read.{made-read}
 use Rattle.image.specs.declared.machine.Header.{Header}
 use Rattle.layout.specs.Layout.{blocksFor}
 use Rattle.layout.specs.Barred.{statesOf, verdictOf}
-use Rattle.image.specs.Image.{imageOf, headerOf, rowsOf, Canonical}
-use Rattle.image_runs.specs.Run as over
-use Rattle.image_runs.specs.Run.{ran, runOver, outcomeOf}
+use Rattle.image.specs.Image.{headerOf, rowsOf, Canonical}
 use Rattle.image.proofs.Canonicals.{states-image}
-use Rattle.image.proofs.Theorems.{written-accepted, written-header, written-rows, written-length}
-use Rattle.image_runs.proofs.Theorems.{then, goes-on}
-use Rattle.generation.specs.Generating.{headerFor, givenBy, blank, MachineGiven, onWay, onVerdict, GivenOnto, GivenUnder, ImageGiven}
+use Rattle.image.proofs.Theorems.{read-written-accepted, read-written-header, read-written-rows, written-length}
+use Rattle.image_runs.specs.Run.{Walked, ended, walkedOn, walked, then, refusalOf, outcomeOf, runAs, runOver}
+use Rattle.image_runs.proofs.Theorems.{goes-on}
+use Rattle.generation.specs.Generating.{headerFor, givenBy, blank, MachineGiven, ImageGiven}
+use Rattle.generation.specs.Imaged.{Imaged, SameAnswer, same-output, same-refusal}
 use Rattle.generation.proofs.Standing.{first-stands}
 use Rattle.generation.proofs.Running.{AlikeRuns, ends, halts, runs-alike}
-use Rattle.generation.proofs.Canonicals.{name-read, few-read, few-fences, all-named, canonical}
-
--- a call that gives an image: its way, its two models, and the machine that was made of them
-pub record Imaged (number : ℕ) (upstream target image : List ℕ) : Type 0 where
-  pub way : Way
-  pub numbered : wayOf number ≡ WayRead.Is way
-  pub upstream-read : reading upstream .verdict ≡ Verdict.Accepted
-  pub target-read : reading target .verdict ≡ Verdict.Accepted
-  pub machine : Machine
-  pub rows : List ℕ
-  pub made :
-      Generated way (reading upstream .model .ppo) (modelOf (reading upstream .model) .fences) (reading target .model .ppo)
-      (modelOf (reading target .model) .fences) blank (Outcome.Made machine) rows
-  pub image-is : image ≡ imageOf (headerFor machine (reading upstream .model .name) (reading target .model .name)) rows
+use Rattle.generation.proofs.Canonicals.{name-read, canonical}
 
 -- A call that gives bytes has read its way and its two texts, and has made their machine; the bytes are its image.
 pub imaged : (number : ℕ) (upstream target image : List ℕ) (fences state : ℕ) → ImageGiven number upstream target (gives image fences state)
     → Imaged number upstream target image
-imaged number upstream target image fences state h = by-way (wayOf number) refl h
+imaged number upstream target image fences state h =
+    let o = given-opened call MachineGiven image fences state h in
+    by-outcome (opens (wayOf number) upstream target (o .0)) (o .1 .outcome) (o .1 .rows) (o .1 .made) (o .1 .gives-it)
   where
-    by-outcome : (way : Way) → wayOf number ≡ WayRead.Is way → reading upstream .verdict ≡ Verdict.Accepted → reading target .verdict ≡ Verdict.Accepted
-        → (o : Outcome) (rows : List ℕ)
-        → Generated way (reading upstream .model .ppo) (modelOf (reading upstream .model) .fences) (reading target .model .ppo)
-        (modelOf (reading target .model) .fences) blank o rows
-        → gives image fences state ≡ givenBy o (reading upstream .model .name) (reading target .model .name) rows → Imaged number upstream target image
-    by-outcome way n u t (Outcome.Made x) rows g e =
-        record { way = way; numbered = n; upstream-read = u; target-read = t; machine = x; rows = rows; made = g; image-is = cc }
-    by-outcome way n u t Outcome.Situations rows g e = differ (cc)
-    by-outcome way n u t Outcome.States rows g e = differ (cc)
-    by-outcome way n u t Outcome.Room rows g e = differ (cc)
+    call : Opening
+    call = opened number upstream target
 
-    by-target : (way : Way) → wayOf number ≡ WayRead.Is way → reading upstream .verdict ≡ Verdict.Accepted → (v : Verdict) → reading target .verdict ≡ v
-        → onVerdict v (MachineGiven way (reading upstream .model) (reading target .model)) (gives image fences state) → Imaged number upstream target image
-    by-target way n u Verdict.Accepted t m = by-outcome way n u t (m .outcome) (m .rows) (m .generated) (m .gives-it)
-    by-target way n u (Verdict.Refused why) t e = differ (cc)
-
-    by-upstream : (way : Way) → wayOf number ≡ WayRead.Is way → (v : Verdict) → reading upstream .verdict ≡ v
-        → onVerdict v (GivenOnto way (reading upstream .model) target) (gives image fences state) → Imaged number upstream target image
-    by-upstream way n Verdict.Accepted u m = by-target way n u (reading target .verdict) refl m
-    by-upstream way n (Verdict.Refused why) u e = differ (cc)
-
-    by-way : (r : WayRead) → wayOf number ≡ r → onWay r (λ (way : Way). GivenUnder way upstream target) (gives image fences state)
-        → Imaged number upstream target image
-    by-way (WayRead.Is way) n m = by-upstream way n (reading upstream .verdict) refl m
-    by-way WayRead.Nothing n e = differ (cc)
-
--- what a run over an image comes to, and a direct run: the same bytes and as many fences, with an end state below the states; or the same refusal
-pub data SameAnswer (states : ℕ) : Given → Directly → Type 0 where
-  same-output : {bytes : List ℕ} {fences state : ℕ} → fences ≡ fenceBytes bytes → state < states → SameAnswer states (gives bytes fences state) (put bytes)
-  same-refusal : (why : Refusal) → SameAnswer states (refuses why) (refuse why)
+    by-outcome : Opens (wayOf number) upstream target (call .models) → (o : Outcome) (rows : List ℕ) → MachineMade (call .models) blank o rows
+        → gives image fences state ≡ givenBy o (call .models) rows → Imaged number upstream target image
+    by-outcome p (Outcome.Made x) rows g e =
+        record { models = call .models; opens = p; machine = x; rows = rows; made = g; image-is = cc }
+    by-outcome p Outcome.Situations rows g e = differ (cc)
+    by-outcome p Outcome.States rows g e = differ (cc)
+    by-outcome p Outcome.Room rows g e = differ (cc)
 
 module _ {number : ℕ} {upstream target image : List ℕ} (call : Imaged number upstream target image) where
-  abbrev up : rule.Model
-  up = modelOf (reading upstream .model)
+  abbrev way : Way
+  way = call .models .way
 
-  abbrev on : rule.Model
-  on = modelOf (reading target .model)
+  abbrev up : Model
+  up = modelOf (call .models .upstream)
+
+  abbrev on : Model
+  on = modelOf (call .models .target)
+
+  abbrev states : ℕ
+  states = call .machine .states
 
   ups-few : length (up .fences) ≤ 16
-  ups-few = few-fences (reading upstream .model) (few-read (told upstream) (call .upstream-read)) (whole-when (told upstream) (call .upstream-read))
+  ups-few = few-fences (call .models .upstream) (few-read upstream (call .opens .upstream-read))
 
   on-few : length (on .fences) ≤ 16
-  on-few = few-fences (reading target .model) (few-read (told target) (call .target-read)) (whole-when (told target) (call .target-read))
+  on-few = few-fences (call .models .target) (few-read target (call .opens .target-read))
 
-  making : Making (shim (call .way) up on) (call .way) (length (up .fences)) (length (on .fences)) blank (call .machine) (call .rows)
-  making =
-      subst₂
-      (λ (a b : List ℕ). Built (shimOf (call .way) (up .ppo) a (on .ppo) b) (call .way) (length a) (length b) blank (Outcome.Made (call .machine)) (call .rows))
-      (all-named (reading upstream .model) (few-read (told upstream) (call .upstream-read)) (whole-when (told upstream) (call .upstream-read)))
-      (all-named (reading target .model) (few-read (told target) (call .target-read)) (whole-when (told target) (call .target-read)))
-      (call .made)
+  making : Making (shim way up on) way (length (up .fences)) (length (on .fences)) blank (call .machine) (call .rows)
+  making = made-read (call .models) (few-read upstream (call .opens .upstream-read)) (few-read target (call .opens .target-read)) (call .made)
 
   abbrev header : Header
-  header = headerFor (call .machine) (reading upstream .model .name) (reading target .model .name)
+  header = headerFor (call .machine) (call .models)
 
   laid-out : Canonical header (call .rows)
   laid-out =
-      canonical (call .way) up on ups-few on-few making (reading upstream .model .name) (reading target .model .name)
-      (name-read (told upstream) (call .upstream-read)) (name-read (told target) (call .target-read))
+      canonical way up on ups-few on-few making (call .models)
+      (name-read upstream (call .opens .upstream-read))
+      (name-read target (call .opens .target-read))
 
   -- A generated machine's image is accepted.
-  pub image-accepted : verdictOf image ≡ image-verdict.Verdict.Accepted
-  image-accepted = ap verdictOf (call .image-is) ∙ written-accepted header (call .rows) laid-out
+  pub image-accepted : verdictOf image ≡ Verdict.Accepted
+  image-accepted = ap verdictOf (call .image-is) ∙ read-written-accepted header (call .rows) laid-out
 
   -- It reads as the machine that was made.
   pub image-header : headerOf image ≡ header
-  image-header = ap headerOf (call .image-is) ∙ written-header header (call .rows) laid-out
+  image-header = ap headerOf (call .image-is) ∙ read-written-header header (call .rows) laid-out
 
-  pub image-rows : rowsOf image ≡ take (call .machine .states * stride) (call .rows)
-  image-rows = ap rowsOf (call .image-is) ∙ written-rows header (call .rows) laid-out (omega (arith, making .room, making .size))
+  pub image-rows : rowsOf image ≡ take (states * stride) (call .rows)
+  image-rows = ap rowsOf (call .image-is) ∙ read-written-rows header (call .rows) laid-out (omega (arith, making .room, making .size))
 
   -- It has the length that its states want.
-  pub image-length : length image ≡ 512 * blocksFor 1 (call .machine .states)
+  pub image-length : length image ≡ 512 * blocksFor 1 states
   image-length = ap (λ (l : List ℕ). length l) (call .image-is) ∙ written-length header (call .rows) laid-out
 
-  directly : (stream : List ℕ) → length stream ≤ 4096 → outcome number upstream target stream ≡ direct (call .way) up on stream
-  directly stream l = rw (call .numbered, call .upstream-read, call .target-read, le-ltb 4096 (length stream) l)
+  -- the direct run of the same number and texts is that of the models
+  runs-so : (stream : List ℕ) → outcome number upstream target stream ≡ runGiven (call .models) stream
+  runs-so stream = ap (λ (o : Opening). onOpened o λ (m : Models). runGiven m stream) (opens-so (call .opens))
 
-  over-long : (stream : List ℕ) → 4096 < length stream → outcome number upstream target stream ≡ refuse Refusal.OverLimit
-  over-long stream l = rw (call .numbered, call .upstream-read, call .target-read, lt-ltb 4096 (length stream) l)
+  directly : (stream : List ℕ) → length stream ≤ 4096 → outcome number upstream target stream ≡ direct way up on stream
+  directly stream l =
+      let e : runGiven (call .models) stream ≡ direct way up on stream = simp (le-ltb 4096 (length stream) l) in
+      runs-so stream ∙ e
+
+  over-long : (stream : List ℕ) → 4096 < length stream → outcome number upstream target stream ≡ refuses Refusal.OverLimit
+  over-long stream l =
+      let e : runGiven (call .models) stream ≡ refuses Refusal.OverLimit = simp (lt-ltb 4096 (length stream) l) in
+      runs-so stream ∙ e
 
   some : 0 < statesOf image
   some =
-      let e : statesOf image ≡ call .machine .states = ap statesOf (call .image-is) ∙ states-image header (call .rows) laid-out in
+      let e : statesOf image ≡ states = ap statesOf (call .image-is) ∙ states-image header (call .rows) laid-out in
       omega (arith, e, laid-out .some)
 
-  told-alike : {r : over.Ran} {o : Directly} → AlikeRuns (call .way) up on ups-few on-few making header laid-out refl (making .its-ups) 0 r o
-      → SameAnswer (call .machine .states) (outcomeOf r) o
-  told-alike (ends e l) = same-output e l
+  told-alike : {r : Walked} {o : Given} → AlikeRuns way up on ups-few on-few making header laid-out refl (making .its-ups) 0 r o
+      → SameAnswer states (outcomeOf r) o
+  told-alike (ends l) = same-output l
   told-alike (halts why k) =
       let z : k ≡ 0 + k = omega arith in
-      subst (λ (n : ℕ). SameAnswer (call .machine .states) (refuses (over.refusalOf why k)) (refuse (over.refusalOf why n))) z (same-refusal _)
+      subst (λ (n : ℕ). SameAnswer states (refuses (refusalOf why k)) (refuses (refusalOf why n))) z (same-refusal _)
 
-  ran-alike : (stream : List ℕ) → length stream ≤ 4096
-      → SameAnswer (call .machine .states) (outcomeOf (ran image 0 stream)) (outcome number upstream target stream)
-  ran-alike stream l =
-      subst₂ (λ (i : List ℕ) (o : Directly). SameAnswer (call .machine .states) (outcomeOf (ran i 0 stream)) o) (sym (call .image-is))
-      (sym (directly stream l ∙ direct-moves (call .way) up on stream))
+  walked-alike : (stream : List ℕ) → length stream ≤ 4096
+      → SameAnswer states (outcomeOf (walked image 0 stream)) (outcome number upstream target stream)
+  walked-alike stream l =
+      subst₂ (λ (i : List ℕ) (o : Given). SameAnswer states (outcomeOf (walked i 0 stream)) o) (sym (call .image-is))
+      (sym (directly stream l ∙ direct-moves way up on stream))
       (told-alike
-      (runs-alike (call .way) up on ups-few on-few making header laid-out refl (making .its-ups) stream 0 0 fresh (first-stands (call .way) up on making)))
+      (runs-alike way up on ups-few on-few making header laid-out refl (making .its-ups) stream 0 0 fresh (first-stands way up on making)))
 
   -- A run over it from state 0 gives the direct run's answer, on every stream, refusals too.
-  pub image-run-is-direct : (stream : List ℕ) → SameAnswer (call .machine .states) (runOver image 0 stream) (outcome number upstream target stream)
+  pub image-run-is-direct : (stream : List ℕ) → SameAnswer states (runOver image 0 stream) (outcome number upstream target stream)
   unfolding runOver
   image-run-is-direct stream = look (decLt 4096 (length stream))
     where
       look : Dec (4096 < length stream)
-          → SameAnswer (call .machine .states) (over.runAs image 0 stream (verdictOf image)) (outcome number upstream target stream)
+          → SameAnswer states (runAs image 0 stream (verdictOf image)) (outcome number upstream target stream)
       look (yes l) =
           rw (image-accepted, lt-ltb 0 (statesOf image) some, lt-leb (length stream) 4096 l, over-long stream l) (same-refusal Refusal.OverLimit)
       look (no l) =
           let m : length stream ≤ 4096 = omega arith in
-          rw (image-accepted, lt-ltb 0 (statesOf image) some, le-leb (length stream) 4096 m) (ran-alike stream m)
+          rw (image-accepted, lt-ltb 0 (statesOf image) some, le-leb (length stream) 4096 m) (walked-alike stream m)
 
   -- From the end state of one run it goes on as the one stream would: the two outputs together are the direct run's of the two streams together,
   -- and so is a refusal, counted from the start of both.
-  pub image-run-goes-on : (first second : List ℕ) {out : List ℕ} {fences state : ℕ} → ran image 0 first ≡ over.ended out fences state
+  pub image-run-goes-on : (first second : List ℕ) {out : List ℕ} {fences state : ℕ} → walked image 0 first ≡ ended out fences state
       → length (first ++ second) ≤ 4096
-      → SameAnswer (call .machine .states) (outcomeOf (over.behind (length first) out fences (ran image state second)))
+      → SameAnswer states (outcomeOf (walkedOn (length first) out fences (walked image state second)))
       (outcome number upstream target (first ++ second))
   image-run-goes-on first second e l =
-      subst (λ (r : over.Ran). SameAnswer (call .machine .states) (outcomeOf r) (outcome number upstream target (first ++ second)))
-      (goes-on image 0 first second ∙ ap (λ (r : over.Ran). then (length first) r (λ (t : ℕ). ran image t second)) e)
-      (ran-alike (first ++ second) l)
+      subst (λ (r : Walked). SameAnswer states (outcomeOf r) (outcome number upstream target (first ++ second)))
+      (goes-on image 0 first second ∙ ap (λ (r : Walked). then (length first) r (λ (t : ℕ). walked image t second)) e)
+      (walked-alike (first ++ second) l)
 
 -- When there is no image: of two models and a way.
-module _ (way : Way) (upstream target : Model) (given : Given) (is : MachineGiven way upstream target given) where
-  abbrev under : rule.Model
-  under = namedModel (upstream .ppo) (modelOf upstream .fences)
+module _ (models : Models) (given : Given) (is : MachineGiven models given) where
+  abbrev the-shim : Shim
+  the-shim = shimBetween models
 
-  abbrev onto : rule.Model
-  onto = namedModel (target .ppo) (modelOf target .fences)
+  abbrev ups : List ℕ
+  ups = modelOf (models .upstream) .fences
+
+  abbrev targets : List ℕ
+  targets = modelOf (models .target) .fences
+
+  -- the two models, of whose fences an operation can name the first sixteen
+  abbrev the-upstream : Model
+  the-upstream = upstreamOf the-shim (named ups)
+
+  abbrev the-target : Model
+  the-target = targetOf the-shim (named targets)
 
   abbrev made-of : Outcome → Given
-  made-of o = givenBy o (upstream .name) (target .name) (is .rows)
+  made-of o = givenBy o models (is .rows)
 
   -- Refusal 8 is given exactly when more than 4,096 situations can be reached.
-  pub gives-8-exactly-when : (given ≡ refuses Refusal.TooManySituations)
-      ↔ ManySituations way under onto
+  pub gives-8-exactly-when : (given ≡ refuses Refusal.TooManySituations) ↔ ManySituations (models .way) the-upstream the-target
   gives-8-exactly-when =
       (λ e. exactly .0 (situations (is .outcome) (sym (is .gives-it) ∙ e)), λ m. is .gives-it ∙ ap made-of (exactly .1 m))
     where
-      exactly : (is .outcome ≡ Outcome.Situations)
-          ↔ ManySituations way under onto
-      exactly =
-          refused-8-exactly-when way (upstream .ppo) (modelOf upstream .fences) (target .ppo) (modelOf target .fences) blank (is .outcome) (is .rows) (is .generated)
+      exactly : (is .outcome ≡ Outcome.Situations) ↔ ManySituations (models .way) the-upstream the-target
+      exactly = refused-8-exactly-when the-shim ups targets blank (is .outcome) (is .rows) (is .made .generated)
 
       situations : (o : Outcome) → made-of o ≡ refuses Refusal.TooManySituations → o ≡ Outcome.Situations
       situations (Outcome.Made x) e = differ (cc)
@@ -217,16 +207,13 @@ module _ (way : Way) (upstream target : Model) (given : Given) (is : MachineGive
 
   -- Refusal 9 is given exactly when the situations are not too many and the states are more than 255.
   pub gives-9-exactly-when : (given ≡ refuses Refusal.TooManyStates)
-      ↔ ((ManySituations way under onto → ⊥)
-      × ManyStates way under onto)
+      ↔ ((ManySituations (models .way) the-upstream the-target → ⊥) × ManyStates (models .way) the-upstream the-target)
   gives-9-exactly-when =
       (λ e. exactly .0 (states (is .outcome) (sym (is .gives-it) ∙ e)), λ m. is .gives-it ∙ ap made-of (exactly .1 m))
     where
       exactly : (is .outcome ≡ Outcome.States)
-          ↔ ((ManySituations way under onto → ⊥)
-          × ManyStates way under onto)
-      exactly =
-          refused-9-exactly-when way (upstream .ppo) (modelOf upstream .fences) (target .ppo) (modelOf target .fences) blank (is .outcome) (is .rows) (is .generated)
+          ↔ ((ManySituations (models .way) the-upstream the-target → ⊥) × ManyStates (models .way) the-upstream the-target)
+      exactly = refused-9-exactly-when the-shim ups targets blank (is .outcome) (is .rows) (is .made .generated)
 
       states : (o : Outcome) → made-of o ≡ refuses Refusal.TooManyStates → o ≡ Outcome.States
       states (Outcome.Made x) e = differ (cc)
@@ -236,12 +223,10 @@ module _ (way : Way) (upstream target : Model) (given : Given) (is : MachineGive
 
   -- The rows always have room, so 7 is never given for want of it, but only where the image exceeds the caller's buffer.
   pub never-7 : given ≡ refuses Refusal.BufferTooSmall → ⊥
-  never-7 e = look (is .outcome) (is .generated) (sym (is .gives-it) ∙ e)
+  never-7 e = look (is .outcome) (is .made) (sym (is .gives-it) ∙ e)
     where
-      look : (o : Outcome)
-          → Generated way (upstream .ppo) (modelOf upstream .fences) (target .ppo) (modelOf target .fences) blank o (is .rows)
-          → givenBy o (upstream .name) (target .name) (is .rows) ≡ refuses Refusal.BufferTooSmall → ⊥
+      look : (o : Outcome) → MachineMade models blank o (is .rows) → made-of o ≡ refuses Refusal.BufferTooSmall → ⊥
       look (Outcome.Made x) g h = differ (cc)
       look Outcome.Situations g h = differ (cc)
       look Outcome.States g h = differ (cc)
-      look Outcome.Room g h = omega (arith, g .short, g .few-states, length-replicate {A = ℕ} 5100 0)
+      look Outcome.Room g h = omega (arith, g .generated .short, g .generated .few-states, length-replicate {A = ℕ} 5100 0)

@@ -1,13 +1,8 @@
--- `write_made` meets its contract. Assumes nothing.
-use mathlib.Core.Path.{refl, subst, ap, _∙_}
+-- `write_made` meets its contract: an outcome without a machine is its refusal. Assumes nothing.
+use mathlib.Core.Path.{refl, subst}
 use borrow.Author.Needs.{needs}
-use denote.Ref.{now}
-use lib.ListN.{length}
-use Rattle.answers.specs.Buffer.{bufferWith, answerWith}
-use Rattle.image.specs.declared.machine.Header.{Header}
-use Rattle.image.specs.Image.{imageOf}
-use Rattle.generation.specs.Generating.{SmallMade}
-use Rattle.generation.proofs.Stages.{answers-so}
+use Rattle.generation.specs.inner.Small.{SmallMade}
+use Rattle.generation.proofs.Stages.{none-made, one-made}
 use Rattle.generation.proofs.write_made.Statement.{statement}
 use Rattle.generation.proofs.write_made.Tie as tie
 
@@ -34,26 +29,16 @@ same-length : tie.Need-same-length
 same-length c = search needs
 
 returns : tie.Need-returns
-returns c =
-    let a = c .before .before .before .before .before .before .before .before .before .before .args in
-    let h = c .before .before .before .before .header-for .ensures in
-    let w = c .before .before .write .ensures in
-    answers-so (a .upstream) (a .target) (now (a .rows)) (now (a .out)) (c .before .before .before .before .before .before .made .given .1) (
-      w .0 ∙ ap (λ (x : Header). answerWith (imageOf x (now (a .rows))) 0 0 (length (now (a .out)))) h,
-      w .1 ∙ ap (λ (x : Header). bufferWith (imageOf x (now (a .rows))) (now (a .out))) h,
-    )
+returns c = search (one-made, needs)
 
 returns-2 : tie.Need-returns-2
-returns-2 c =
-    let a = c .before .before .before .before .args in answers-so (a .upstream) (a .target) (now (a .rows)) (now (a .out)) (c .enum-told .given .1) (refl, refl)
+returns-2 c = none-made _ _ (c .enum-told .given .1) refl
 
 returns-3 : tie.Need-returns-3
-returns-3 c =
-    let a = c .before .before .before .before .args in answers-so (a .upstream) (a .target) (now (a .rows)) (now (a .out)) (c .enum-told2 .given .1) (refl, refl)
+returns-3 c = none-made _ _ (c .enum-told2 .given .1) refl
 
 returns-4 : tie.Need-returns-4
-returns-4 c =
-    let a = c .before .before .before .before .args in answers-so (a .upstream) (a .target) (now (a .rows)) (now (a .out)) (c .enum-told3 .given .1) (refl, refl)
+returns-4 c = none-made _ _ (c .enum-told3 .given .1) refl
 
 pub write-made-spec : {M : Type 1} → statement M
 write-made-spec =

@@ -1,4 +1,4 @@
--- `follow_all` is safe and ends. Assumes nothing.
+-- `follow_all` is safe and ends: the measure is what is left of the input. Assumes nothing.
 use Prim.Native.Nat.{_-_}
 use mathlib.Core.Path.{_≡_}
 use borrow.Author.Needs.{needs}

@@ -1,4 +1,4 @@
--- `fill` is safe and ends. Assumes nothing.
+-- `fill` is safe and ends: the measure is what is left of the rows. Assumes nothing.
 use Prim.Native.Nat.{_-_}
 use mathlib.Core.Path.{_≡_}
 use borrow.Author.Needs.{needs}

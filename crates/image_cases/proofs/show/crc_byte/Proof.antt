@@ -1,4 +1,4 @@
--- `crc_byte` is safe and ends. Assumes nothing.
+-- `crc_byte` is safe and ends: the measure is what is left of the eight bits. Assumes nothing.
 use Prim.Native.Nat.{_-_}
 use borrow.Author.Needs.{needs}
 use Rattle.image_cases.proofs.show.crc_byte.Statement.{statement}

@@ -1,4 +1,4 @@
--- `print_checks` is safe and ends. Assumes nothing.
+-- `print_checks` is safe and ends: the measure is what is left of the image. Assumes nothing.
 use Prim.Native.Nat.{_-_, _≤_}
 use borrow.Author.Needs.{needs}
 use lib.ListN.{length}

@@ -1,4 +1,4 @@
--- `read` is safe and ends. Assumes nothing.
+-- `read` is safe and ends: the words asked for are no more than there are. Assumes nothing.
 use mathlib.Core.Path.{sym}
 use native.Mathlib.Omega.{arith}
 use borrow.Author.Needs.{needs}
