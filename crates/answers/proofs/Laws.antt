@@ -19,11 +19,13 @@ pub buffer-not : (text out : List ℕ) → length out < length text → bufferWi
 unfolding bufferWith
 buffer-not text out l = rw (lt-leb _ _ l)
 
-pub answer-fits : (text : List ℕ) (fences state room : ℕ) → length text ≤ room → answerWith text fences state room ≡ Answer.Done (length text) fences state
+pub answer-fits : (text : List ℕ) (fences state room : ℕ) → length text ≤ room
+    → answerWith text fences state room ≡ Answer.Done (length text) fences state
 unfolding answerWith
 answer-fits text fences state room l = rw (le-leb _ _ l)
 
-pub answer-not : (text : List ℕ) (fences state room : ℕ) → room < length text → answerWith text fences state room ≡ Answer.Refused Refusal.BufferTooSmall
+pub answer-not : (text : List ℕ) (fences state room : ℕ) → room < length text
+    → answerWith text fences state room ≡ Answer.Refused Refusal.BufferTooSmall
 unfolding answerWith
 answer-not text fences state room l = rw (lt-leb _ _ l)
 

@@ -53,6 +53,7 @@ list-one a b = tells-one (λ x y s t p q. one-answer p q) a b
 
 -- and `shim_generate`
 pub generate-one : (number : ℕ) (upstream target : List ℕ) {out : List ℕ} {n n′ : ℕ} {numbers numbers′ after after′ : List ℕ}
-    → Tells (Answers (ImageGiven number upstream target) out) n numbers after → Tells (Answers (ImageGiven number upstream target) out) n′ numbers′ after′
+    → Tells (Answers (ImageGiven number upstream target) out) n numbers after
+    → Tells (Answers (ImageGiven number upstream target) out) n′ numbers′ after′
     → (n ≡ n′) × (numbers ≡ numbers′) × (after ≡ after′)
 generate-one number upstream target a b = tells-one (λ x y s t p q. generated.one-answer number upstream target p q) a b

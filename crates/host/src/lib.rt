@@ -48,7 +48,8 @@ pub extern "C" fn shim_run<'a>(
     out: &mut [u8],
     answer: &mut [u64; 5],
 ) -> u64
-    ensures { λ r. ⌜ Tells (Delivers (outcome way (now (upstream .entry)) (now (target .entry)) (now (stream .entry))) (now (out .entry))) r (now (answer .exit)) (now (out .exit)) ⌝ }
+    ensures { λ r. ⌜ Tells (Delivers (outcome way (now (upstream .entry)) (now (target .entry)) (now (stream .entry))) (now (out .entry)))
+        r (now (answer .exit)) (now (out .exit)) ⌝ }
 {
     tell(runs::run(way, upstream, target, stream, out), answer)
 }
@@ -62,7 +63,8 @@ pub extern "C" fn shim_generate<'a>(
     out: &mut [u8],
     answer: &mut [u64; 5],
 ) -> u64
-    ensures { λ r. ⌜ Tells (Answers (ImageGiven way (now (upstream .entry)) (now (target .entry))) (now (out .entry))) r (now (answer .exit)) (now (out .exit)) ⌝ }
+    ensures { λ r. ⌜ Tells (Answers (ImageGiven way (now (upstream .entry)) (now (target .entry))) (now (out .entry)))
+        r (now (answer .exit)) (now (out .exit)) ⌝ }
 {
     tell(generation::generate(way, upstream, target, out), answer)
 }
@@ -89,7 +91,8 @@ pub extern "C" fn shim_image_run<'a>(
     out: &mut [u8],
     answer: &mut [u64; 5],
 ) -> u64
-    ensures { λ r. ⌜ Tells (Delivers (runOver (now (image .entry)) start (now (stream .entry))) (now (out .entry))) r (now (answer .exit)) (now (out .exit)) ⌝ }
+    ensures { λ r. ⌜ Tells (Delivers (runOver (now (image .entry)) start (now (stream .entry))) (now (out .entry)))
+        r (now (answer .exit)) (now (out .exit)) ⌝ }
 {
     tell(image_runs::run(image, start, stream, out), answer)
 }

@@ -8,5 +8,7 @@ use Rattle.machine.specs.declared.machine.Outcome.{Outcome}
 use Rattle.machine.proofs.Unique.{generated-unique}
 use Rattle.making.specs.Made.{MachineMade}
 
-pub made-one : (m : Models) (rows : List ℕ) (r q : Outcome) {a b : List ℕ} → MachineMade m rows r a → MachineMade m rows q b → (r ≡ q) × (a ≡ b)
-made-one m rows r q x y = generated-unique (shimBetween m) (modelOf (m .upstream) .fences) (modelOf (m .target) .fences) rows r q (x .generated) (y .generated)
+pub made-one : (m : Models) (rows : List ℕ) (r q : Outcome) {a b : List ℕ}
+    → MachineMade m rows r a → MachineMade m rows q b → (r ≡ q) × (a ≡ b)
+made-one m rows r q x y =
+    generated-unique (shimBetween m) (modelOf (m .upstream) .fences) (modelOf (m .target) .fences) rows r q (x .generated) (y .generated)

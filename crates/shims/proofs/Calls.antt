@@ -57,10 +57,6 @@ given-opened o More bytes fences state = by (o .verdict) refl
     by Verdict.Accepted e h = (e, h)
     by (Verdict.Refused why) e h = differ (cc)
 
--- and one that has opened gives what it gives for the models
-pub on-accepted : (o : Opening) (more : Models → Given) → o .verdict ≡ Verdict.Accepted → onOpened o more ≡ more (o .models)
-on-accepted o more e = ap (λ (v : Verdict). unlessRefused v (more (o .models))) e
-
 -- One thing alone is given, where one thing alone is given for the models.
 pub given-one : (o : Opening) (More : Models → Given → Type 0) → ((m : Models) (g h : Given) → More m g → More m h → g ≡ h)
     → (g h : Given) → GivenOnOpened o More g → GivenOnOpened o More h → g ≡ h

@@ -11,7 +11,8 @@ use Rattle.answers.proofs.write_out.Statement.{statement}
 use Rattle.answers.proofs.write_out.Tie as tie
 
 abbrev Inv-loop : tie.InvT-loop
-Inv-loop text fences state out₀ n i₀ out i = (i ≤ n) × (n ≤ length out₀) × (n ≡ length text) × (length out ≡ length out₀) × (out ≡ take i text ++ drop i out₀)
+Inv-loop text fences state out₀ n i₀ out i =
+    (i ≤ n) × (n ≤ length out₀) × (n ≡ length text) × (length out ≡ length out₀) × (out ≡ take i text ++ drop i out₀)
 
 abbrev μ-loop : tie.MeasureT-loop
 μ-loop text fences state out₀ n i₀ out i = n - i
@@ -48,7 +49,8 @@ loop-again c =
       v .1,
       v .2,
       simp length-set (v .3),
-      ap (λ (s : List ℕ). set s (l .i) (getD (now (a .text)) (l .i) 0)) (v .4) ∙ copied-more (now (a .text)) (now (a .out)) (l .i) (omega arith) (omega arith),
+      ap (λ (s : List ℕ). set s (l .i) (getD (now (a .text)) (l .i) 0)) (v .4)
+          ∙ copied-more (now (a .text)) (now (a .out)) (l .i) (omega arith) (omega arith),
     )
 
 same-length : tie.Need-same-length Inv-loop μ-loop

@@ -14,16 +14,32 @@ in-range-requires-2 : tie.Need-in-range-requires-2
 in-range-requires-2 c κs = search needs
 
 returns-2 : tie.Need-returns-2
-returns-2 c = simp (sym (c .before .before .before .in-range .ensures) ∙ c .before .before .if1 .left, sym (c .before .in-range2 .ensures) ∙ c .if2 .taken)
+returns-2 c =
+    let first = c .before .before .before in
+    simp (sym (first .in-range .ensures) ∙ c .before .before .if1 .left, sym (c .before .in-range2 .ensures) ∙ c .if2 .taken)
 
 in-range-requires-3 : tie.Need-in-range-requires-3
 in-range-requires-3 c κs = search needs
 
 returns-3 : tie.Need-returns-3
-returns-3 c = simp (sym (c .before .before .before .before .before .in-range .ensures) ∙ c .before .before .before .before .if1 .left, sym (c .before .before .before .in-range2 .ensures) ∙ c .before .before .if2 .left, sym (c .before .in-range3 .ensures) ∙ c .if3 .taken)
+returns-3 c =
+    let second = c .before .before .before in
+    let first = second .before .before in
+    simp (
+      sym (first .in-range .ensures) ∙ second .before .if1 .left,
+      sym (second .in-range2 .ensures) ∙ c .before .before .if2 .left,
+      sym (c .before .in-range3 .ensures) ∙ c .if3 .taken,
+    )
 
 returns-4 : tie.Need-returns-4
-returns-4 c = simp (sym (c .before .before .before .before .before .in-range .ensures) ∙ c .before .before .before .before .if1 .left, sym (c .before .before .before .in-range2 .ensures) ∙ c .before .before .if2 .left, sym (c .before .in-range3 .ensures) ∙ c .if3 .left)
+returns-4 c =
+    let second = c .before .before .before in
+    let first = second .before .before in
+    simp (
+      sym (first .in-range .ensures) ∙ second .before .if1 .left,
+      sym (second .in-range2 .ensures) ∙ c .before .before .if2 .left,
+      sym (c .before .in-range3 .ensures) ∙ c .if3 .left,
+    )
 
 pub is-name-byte-spec : {M : Type 1} → statement M
 is-name-byte-spec =

@@ -1,3 +1,4 @@
+-- `kind_of` meets its contract: each letter by the tests that led there. Assumes nothing.
 use borrow.Author.Tests.{eq-eqb, ne-eqb}
 use Rattle.operations.proofs.alphabet.kind_of.Statement.{statement}
 use Rattle.operations.proofs.alphabet.kind_of.Tie as tie
