@@ -3,12 +3,12 @@ ghost use mathlib.Core.Path.{_≡_};
 ghost use Rattle.ground.specs.Bytes.{at};
 ghost use Rattle.answers.specs.Given.{Delivers};
 ghost use Rattle.image.specs.Calls.{writtenBack, headerAs};
-use crate::machine::STRIDE;
-use crate::machine::WORDS;
 use crate::reader;
 use crate::writer;
 use answers::Answer;
 use answers::Verdict;
+use operations::alphabet::STRIDE;
+use operations::alphabet::WORDS;
 
 fn write_back(image: &[u8], out: &mut [u8]) -> Answer
     ensures { λ r. ⌜ Delivers (writtenBack (now (image .entry))) (now (out .entry)) r (now (out .exit)) ⌝ }

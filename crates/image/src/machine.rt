@@ -2,13 +2,6 @@
 // fence byte and the next state.
 use answers::Verdict;
 
-// How many letters are accesses; how many words a state has in rows; how many words the most states have.
-pub(crate) const ACCESSES: usize = 4;
-
-pub const STRIDE: usize = 20;
-
-pub const WORDS: usize = 255 * STRIDE;
-
 // Bytes, so that every header has an image. The names are filled up with zeros.
 pub struct Header {
     pub way: u8,

@@ -6,14 +6,14 @@ ghost use Rattle.ground.specs.Bytes.{at};
 ghost use Rattle.operations.specs.Alphabet.{stride};
 ghost use Rattle.image.specs.Image.{listed, headerOf, entryWord, rowWord, refusedReading, ReadsAs, ReadsTo};
 ghost use Rattle.image.specs.inner.Filling.{Filled};
-use crate::machine::ACCESSES;
 use crate::machine::Header;
 use crate::machine::Reading;
-use crate::machine::STRIDE;
 use answers::Refusal;
 use answers::Verdict;
 use layout::places;
 use layout::verdict;
+use operations::alphabet::ACCESSES;
+use operations::alphabet::STRIDE;
 
 // The word of a state and a letter.
 fn entry_word(image: &[u8], state: u8, letter: usize) -> u16

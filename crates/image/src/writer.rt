@@ -6,14 +6,14 @@ ghost use Rattle.answers.specs.Given.{gives, Delivers};
 ghost use Rattle.layout.specs.Layout.{limit};
 ghost use Rattle.image.specs.Image.{word, half, used, sizeOf, valueAt, byteAt, imageOf};
 ghost use Rattle.image.specs.inner.Filling.{Front, sealed};
-use crate::machine::ACCESSES;
 use crate::machine::Header;
-use crate::machine::STRIDE;
 use answers::Answer;
 use layout::checksum;
 use layout::places;
 use layout::places::Place;
 use layout::verdict::LIMIT;
+use operations::alphabet::ACCESSES;
+use operations::alphabet::STRIDE;
 
 fn word_at(rows: &[u16], state: usize, letter: usize) -> u16
     requires { ⌜ (state < 2 ^ 32) × (letter < 2 ^ 32) ⌝ }

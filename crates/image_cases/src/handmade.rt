@@ -1,8 +1,8 @@
 // Images of more states than any built-in pair has.
 use answers::Answer;
 use image::machine::Header;
-use image::machine::STRIDE;
-use image::machine::WORDS;
+use operations::alphabet::STRIDE;
+use operations::alphabet::WORDS;
 
 fn word(fence: usize, next: usize) -> u16 {
     (fence % 256 * 256 + next % 256) as u16

@@ -10,10 +10,10 @@ ghost use mathlib.Core.Path.{_≡_};
 ghost use lib.ListN.{take};
 ghost use Rattle.machine.specs.Generated.{Generated};
 ghost use Rattle.machine.specs.inner.Stages.{Few, Makes, Unused, Searched, Sorted};
-use crate::machine::ACCESSES;
 use crate::machine::Machine;
 use crate::machine::Outcome;
-use crate::machine::STRIDE;
+use operations::alphabet::ACCESSES;
+use operations::alphabet::STRIDE;
 use rule::way;
 use rule::way::Shim;
 

@@ -10,12 +10,6 @@ pub struct Machine {
     pub targets: usize,
 }
 
-// The letters of the accesses, before those of the upstream fences.
-pub const ACCESSES: usize = 4;
-
-// As many letters as there can be, four and sixteen: a state's words begin so many places behind those of the state before it.
-pub const STRIDE: usize = 20;
-
 pub enum Outcome {
     Made(Machine),
     // More than 4,096 situations: refusal 8.

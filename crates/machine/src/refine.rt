@@ -8,7 +8,7 @@ ghost use Rattle.machine.specs.inner.Index.{capacity, Scratch};
 ghost use Rattle.machine.specs.inner.Refine.{Named, Begun, Rounded, Refined};
 ghost use Rattle.machine.specs.inner.Words.{words, Slot, tabled, seen, key};
 use crate::index;
-use crate::machine::STRIDE;
+use operations::alphabet::STRIDE;
 
 pub(crate) fn wide_word(x: u32) -> usize
     ensures { λ r. ⌜ (r ≡ x) × (r < 2 ^ 32) ⌝ }

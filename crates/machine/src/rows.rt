@@ -8,8 +8,8 @@ ghost use Rattle.mealy.specs.Classes.{Numbering};
 ghost use Rattle.machine.specs.inner.Index.{capacity};
 ghost use Rattle.machine.specs.inner.Words.{words, Slot};
 ghost use Rattle.machine.specs.inner.Writing.{stateWord, stateEntry, RowWritten, RowsWritten, FirstWritten, Narrow};
-use crate::machine::STRIDE;
 use crate::refine;
+use operations::alphabet::STRIDE;
 
 // The word of a state where the table has this word.
 fn state_word(word: usize, classes: &[u8]) -> u16

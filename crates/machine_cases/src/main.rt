@@ -5,43 +5,29 @@
 // The stored output comes from the model in `host/model`, which shares nothing with this code: `tools/expect-machine-cases` asks it for each pair.
 use answers::Verdict;
 use cases::fields::field;
-use machine::machine::ACCESSES;
 use machine::machine::Machine;
 use machine::machine::Outcome;
-use machine::machine::STRIDE;
 use models::model::Model;
-use rule::way::Shim;
+use operations::alphabet::ACCESSES;
+use operations::alphabet::STRIDE;
+use operations::alphabet::WORDS;
 use rule::way::Way;
-
-// Room for 255 states.
-const WORDS: usize = 5100;
+use shims::Models;
 
 fn way_of(number: u64) -> Way {
     if number == 0 { Way::Sparing } else { Way::Full }
 }
 
-fn front(tables: &[u64], n: usize) -> &[u64] {
-    if n <= tables.len() {
-        &tables[..n]
-    } else {
-        tables
-    }
-}
-
 fn generate(way: u64, upstream: Model, target: Model, rows: &mut [u16]) -> Outcome {
-    let ups = upstream.tables;
-    let fences = target.tables;
-    let n = upstream.fences;
-    let k = target.fences;
     let way = way_of(way);
-    let defaults = upstream.ppo;
-    let offered = target.ppo;
-    let shim = Shim {
-        way,
-        upstream: defaults,
-        target: offered,
-    };
-    machine::generate(shim, front(&ups, n), front(&fences, k), rows)
+    making::make(
+        Models {
+            way,
+            upstream,
+            target,
+        },
+        rows,
+    )
 }
 
 fn print_outcome(outcome: Outcome) {

@@ -6,6 +6,15 @@ ghost use Rattle.operations.specs.Operation.{byteOf};
 use crate::Kind;
 use crate::Operation;
 
+// How many letters are accesses; and how many there can be, which is how far one state's words in a machine's rows stand behind those of the
+// state before it.
+pub const ACCESSES: usize = 4;
+
+pub const STRIDE: usize = 20;
+
+// The words of 255 states, the most that a machine has.
+pub const WORDS: usize = 255 * STRIDE;
+
 // The kind of an access's letter. (A letter that is no access's counts as the last.)
 pub fn kind_of(letter: usize) -> Kind
     ensures { λ r. ⌜ r ≡ kindOf letter ⌝ }
@@ -36,10 +45,10 @@ pub fn letter_of(kind: Kind) -> usize
 pub fn operation_of(letter: usize) -> Operation
     ensures { λ r. ⌜ r ≡ operationOf letter ⌝ }
 {
-    if letter < 4 {
+    if letter < ACCESSES {
         Operation::Access(kind_of(letter))
     } else {
-        Operation::Fence(letter - 4)
+        Operation::Fence(letter - ACCESSES)
     }
 }
 
