@@ -3,7 +3,7 @@
 use Prim.Native.Nat.{ℕ, suc, _+_, _*_, _≤_}
 use mathlib.Core.Path.{_≡_, refl, sym, ap, ap₂, subst, _∙_}
 use mathlib.Core.Bool.{Bool, true, false, cond}
-use mathlib.Core.List.{List, [], _∷_, _++_, map}
+use mathlib.Core.List.{List, [], _∷_, _++_}
 use mathlib.Core.Option.{Option, none, some}
 use native.Mathlib.Omega.{arith}
 use borrow.Author.Tests.{ltb-false}
@@ -74,7 +74,7 @@ Short n (refuses why) = Unit {0}
 
 short-outcome : (n m : ℕ) → n ≤ m → (x : Ran) → Few n x → (f : Option Refusal) → Short m (outcomeOf 0 x f)
 short-outcome n m l (refused i) h f = tt
-short-outcome n m l (done out) h none = (omega (arith, length-map byteOf out), refl, refl)
+short-outcome n m l (done out) h none = (omega (arith, length-map out byteOf), refl, refl)
 short-outcome n m l (done out) h (some why) = tt
 
 run-short : (m : Models) (stream : List ℕ) → Short 8192 (runGiven m stream)
@@ -91,7 +91,6 @@ run-short m stream = by (ltb 4096 (length stream)) refl
     ops = operations (length (up .fences)) 0 stream
 
     by : (q : Bool) → ltb 4096 (length stream) ≡ q → Short 8192 (cond q (refuses Refusal.OverLimit) (direct (m .way) up on stream))
-    unfolding direct
     by true e = tt
     by false e =
         short-outcome (2 * length ops) 8192

@@ -1,20 +1,17 @@
 -- The longest listing: 42 bytes of names and way, 11 of the states' number, 12 for each of 20 letters of 255 states, 8,197 of output and 12 of
 -- fences. So every listing fits 73,728 bytes, and the line of a refusal 53. Assumes nothing.
 use Prim.Native.Nat.{ℕ, zero, suc, _+_, _*_, _^_, _≤_, _<_}
-use mathlib.Core.Path.{_≡_}
 use mathlib.Core.List.{List, [], _∷_, _++_}
 use native.Mathlib.Omega.{arith}
 use lib.ListN.{length, length-append}
 use Rattle.ground.specs.Bytes.{bytes}
-use Rattle.answers.specs.declared.Refusal.{Refusal}
-use Rattle.answers.specs.Answer.{numberOf, placeOf}
 use Rattle.operations.specs.Alphabet.{operationOf}
 use Rattle.operations.specs.Operation.{byteOf}
+use Rattle.rule.specs.declared.way.Way.{Way}
 use Rattle.printing.specs.Decimal.{decimal}
 use Rattle.printing.proofs.Decimals.{length-digits}
-use Rattle.rule.specs.declared.way.Way.{Way}
 use Rattle.mealy.specs.Runs.{Answer}
-use Rattle.listing.specs.Printed.{wayWord, namesLine, numberLine, fenceMark, nextState, stepLine, stateLines, rowLines, outLine, Listing, listing, refusalLine}
+use Rattle.listing.specs.Printed.{wayWord, namesLine, numberLine, fenceMark, nextState, stepLine, stateLines, rowLines, outLine, Listing, listing, refusedAt}
 use Rattle.listing.specs.inner.Limits.{Limited}
 
 -- lengths of parts
@@ -89,26 +86,12 @@ listing-length l m =
       m .few-states,
     )
 
--- the line of a refusal
-number-small : (why : Refusal) → numberOf why < 100
-number-small Refusal.OverLimit = omega arith
-number-small (Refusal.NotOfTheForm k) = omega arith
-number-small (Refusal.FenceNameRepeats k) = omega arith
-number-small (Refusal.NoOperation k) = omega arith
-number-small (Refusal.NoSuchFence k) = omega arith
-number-small (Refusal.NoFenceWillDo k) = omega arith
-number-small Refusal.BufferTooSmall = omega arith
-number-small Refusal.TooManySituations = omega arith
-number-small Refusal.TooManyStates = omega arith
-number-small (Refusal.BrokenBlock k) = omega arith
-number-small (Refusal.BarredValue k) = omega arith
-number-small Refusal.OutOfRange = omega arith
-
-pub refusal-length : (why : Refusal) → placeOf why < 10 ^ 20 → length (refusalLine why) ≤ 53
-refusal-length why h =
+-- the line of a refusal, by a number and a place of 64 bits
+pub refused-length : (number place : ℕ) → number < 10 ^ 20 → place < 10 ^ 20 → length (refusedAt number place) ≤ 53
+refused-length number place n p =
     omega (
       arith,
-      length-append (decimal (numberOf why)) (numberLine (bytes " at ") (placeOf why)),
-      length-digits 1 (numberOf why) (number-small why),
-      number-length (bytes " at ") (placeOf why) 20 (length-digits 19 (placeOf why) h),
+      length-append (decimal number) (numberLine (bytes " at ") place),
+      length-digits 19 number n,
+      number-length (bytes " at ") place 20 (length-digits 19 place p),
     )

@@ -1,7 +1,7 @@
 -- What is listed once the machine is made: each outcome is what the rule's machine comes to, and a machine that is made is within the limits.
 -- Assumes nothing.
 use Prim.Native.Nat.{ℕ, _+_, _*_, _%_, _/_, _≤_, _<_}
-use mathlib.Core.Path.{_≡_, refl, sym, ap₂, subst}
+use mathlib.Core.Path.{_≡_, sym, ap, ap₂, subst, _∙_}
 use mathlib.Core.Bool.{Bool, true, false, cond}
 use mathlib.Core.List.{List, [], _∷_}
 use native.Mathlib.Omega.{arith}
@@ -10,14 +10,16 @@ use lib.ListN.{length}
 use Rattle.ground.specs.Bytes.{at}
 use Rattle.answers.specs.declared.Answer.{Answer}
 use Rattle.answers.specs.declared.Verdict.{Verdict}
-use Rattle.answers.specs.Given.{Given, gives, Delivers, Answers}
+use Rattle.answers.specs.Given.{gives, Delivers, Answers}
 use Rattle.operations.specs.declared.Operation.{Operation}
 use Rattle.operations.specs.declared.Byte.{Byte}
 use Rattle.operations.specs.Operation.{byteIs}
 use Rattle.operations.specs.Alphabet.{lettersWith, stride}
+use Rattle.rule.specs.declared.way.Way.{Way}
 use Rattle.printing.proofs.Names.{unfilled-short}
 use Rattle.shims.specs.declared.WayRead.{WayRead}
 use Rattle.shims.specs.declared.Models.{Models}
+use Rattle.shims.specs.declared.Opening.{Opening}
 use Rattle.shims.specs.Models.{modelOf}
 use Rattle.shims.specs.Opening.{openedBy}
 use Rattle.shims.proofs.Theorems.{opens}
@@ -91,11 +93,17 @@ module _ (m : Models) (sixteen : Sixteen m) (output : List ℕ) (fences : ℕ) (
   }
 
 -- models that were read
-pub sixteen-read : (read : WayRead) (upstream target : List ℕ) → openedBy read upstream target .verdict ≡ Verdict.Accepted
+sixteen-read : (read : WayRead) (upstream target : List ℕ) → openedBy read upstream target .verdict ≡ Verdict.Accepted
     → Sixteen (openedBy read upstream target .models)
 sixteen-read read upstream target e =
     let o = opens read upstream target e in
     record { upstream = few-read upstream (o .upstream-read); target = few-read target (o .target-read) }
+
+pub sixteen-opened : {o : Opening} (way : Way) (upstream target : List ℕ) → o ≡ openedBy (WayRead.Is way) upstream target
+    → o .verdict ≡ Verdict.Accepted → Sixteen (o .models)
+sixteen-opened way upstream target is e =
+    subst (λ (x : Opening). Sixteen (x .models)) (sym is)
+    (sixteen-read (WayRead.Is way) upstream target (sym (ap (λ (x : Opening). x .verdict) is) ∙ e))
 
 -- the next state of a word is below 256
 next-small : (w : ℕ) → nextState (decoded w) < 1000

@@ -8,8 +8,8 @@ use mathlib.Core.Option.{Option, none, some}
 use lib.ListN.{length}
 use Rattle.answers.specs.declared.Refusal.{Refusal}
 use Rattle.answers.specs.Given.{Given, gives, refuses}
-use Rattle.printing.specs.Name.{unfilled}
 use Rattle.rule.specs.declared.situation.Situation.{Situation}
+use Rattle.printing.specs.Name.{unfilled}
 use Rattle.shims.specs.declared.WayRead.{WayRead}
 use Rattle.shims.specs.declared.Models.{Models}
 use Rattle.shims.specs.Models.{modelOf}

@@ -68,5 +68,9 @@ listing l =
     namesLine (l .upstream) (l .target) (l .way) ++ (numberLine (bytes "states ") (l .states)
     ++ (rowLines (l .row) (l .letters) (l .states) ++ (outLine (l .output) ++ numberLine (bytes "fences ") (l .fences))))
 
+-- the line of a refusal
+abbrev pub refusedAt : ℕ → ℕ → List ℕ
+refusedAt number place = bytes "refused " ++ (decimal number ++ numberLine (bytes " at ") place)
+
 abbrev pub refusalLine : Refusal → List ℕ
-refusalLine why = bytes "refused " ++ (decimal (numberOf why) ++ numberLine (bytes " at ") (placeOf why))
+refusalLine why = refusedAt (numberOf why) (placeOf why)

@@ -15,6 +15,7 @@ use answers::Verdict;
 use ground::Found;
 use machine::machine::Machine;
 use machine::machine::Outcome;
+use operations::alphabet::WORDS;
 use rule::way::Way;
 use shims::Models;
 
@@ -23,7 +24,7 @@ pub fn refusal_line(why: Refusal, out: &mut [u8]) -> Answer
     ensures { λ r. ⌜ Delivers (gives (refusalLine why) 0 0) (now (out .entry)) r (now (out .exit)) ⌝ }
 {
     let mut line = [0u8; 53];
-    let n = print::put_refusal(&mut line, why);
+    let n = print::put_refusal(&mut line, why.number(), why.place());
     answers::write_out(&line[..n], 0, 0, out)
 }
 
@@ -71,7 +72,7 @@ fn list_machine(models: Models, output: &[u8], fences: usize, out: &mut [u8]) ->
     requires { ⌜ Sixteen models × RunOutput (now output) fences ⌝ }
     ensures { λ r. ⌜ Answers (MachineListed models (now (output .entry))) (now (out .entry)) r (now (out .exit)) ⌝ }
 {
-    let mut rows = [0u16; 5100];
+    let mut rows = [0u16; WORDS];
     let made = making::make(models, &mut rows);
     list_made(made, models, &rows, output, fences, out)
 }
@@ -102,7 +103,11 @@ fn list_parts<'a>(
     out: &mut [u8],
 ) -> Answer
     ensures { λ r. ⌜ Answers (PartsListed (record {
-        upstream = now (upstream .entry); target = now (target .entry); way = way; stream = now (stream .entry) }))
+      upstream = now (upstream .entry);
+      target = now (target .entry);
+      way = way;
+      stream = now (stream .entry);
+    }))
         (now (out .entry)) r (now (out .exit)) ⌝ }
 {
     let opening = shims::read_texts(way, upstream, target);

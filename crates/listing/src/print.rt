@@ -6,16 +6,16 @@ ghost use Rattle.ground.specs.Bytes.{bytes};
 ghost use Rattle.printing.specs.Name.{unfilled};
 ghost use Rattle.printing.specs.Putting.{Put};
 ghost use Rattle.machine.specs.Rows.{decoded, answerAt};
-ghost use Rattle.listing.specs.Printed.{wayWord, namesLine, numberLine, fenceMark, nextState, stepLine, stateLines, rowLines, outLine, listing, refusalLine};
+ghost use Rattle.listing.specs.Printed.{wayWord, namesLine, numberLine, fenceMark, nextState, stepLine, stateLines, rowLines, outLine, listing, refusedAt};
 ghost use Rattle.listing.specs.inner.Limits.{RowsThere, Listable};
 ghost use Rattle.listing.specs.inner.Making.{madeListing};
 use answers::Refusal;
-use machine::machine::ACCESSES;
 use machine::machine::Machine;
-use machine::machine::STRIDE;
 use models::model::Name;
 use operations::Operation;
 use operations::alphabet;
+use operations::alphabet::ACCESSES;
+use operations::alphabet::STRIDE;
 use rule::way::Way;
 use shims::Models;
 
@@ -127,13 +127,13 @@ fn put_out(buffer: &mut [u8], at: usize, output: &[u8]) -> usize
     printing::put(buffer, end, b"\n")
 }
 
-// The line of a refusal.
-pub(crate) fn put_refusal(buffer: &mut [u8], why: Refusal) -> usize
-    ensures { λ r. ⌜ Put (now (buffer .entry)) (now (buffer .exit)) 0 r (refusalLine why) ⌝ }
+// The line of a refusal, by its number and place.
+pub(crate) fn put_refusal(buffer: &mut [u8], number: u64, place: u64) -> usize
+    ensures { λ r. ⌜ Put (now (buffer .entry)) (now (buffer .exit)) 0 r (refusedAt number place) ⌝ }
 {
     let number_at = printing::put(buffer, 0, b"refused ");
-    let end = printing::put_decimal(buffer, number_at, why.number());
-    put_number_line(buffer, end, b" at ", why.place())
+    let end = printing::put_decimal(buffer, number_at, number);
+    put_number_line(buffer, end, b" at ", place)
 }
 
 // A whole listing, from the front of the buffer.
@@ -151,9 +151,10 @@ pub(crate) fn put_listing<'a>(
 {
     let upstream = models.upstream;
     let target = models.target;
+    let way = models.way;
     let states = machine.states;
     let letters = ACCESSES + machine.ups;
-    let states_at = put_names(buffer, upstream.name, target.name, models.way);
+    let states_at = put_names(buffer, upstream.name, target.name, way);
     let rows_at = put_number_line(buffer, states_at, b"states ", states as u64);
     let out_at = put_rows(buffer, rows_at, rows, states, letters);
     let fences_at = put_out(buffer, out_at, output);

@@ -5,8 +5,8 @@ use mathlib.Core.List.{List, [], _∷_}
 use mathlib.Core.Bool.{Bool, true, false}
 use mathlib.Core.Option.{none, some as one}
 use lib.ListN.{length, take, drop}
-use Rattle.rule.specs.declared.way.Way.{Way}
 use Rattle.ground.specs.declared.Found.{Found}
+use Rattle.rule.specs.declared.way.Way.{Way}
 use Rattle.listing.specs.declared.shape.Looked.{Looked}
 use Rattle.listing.specs.declared.shape.Tail.{Tail}
 use Rattle.listing.specs.Shape.{lines, joined, through, isRun, endingOf}
