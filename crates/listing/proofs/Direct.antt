@@ -1,152 +1,144 @@
--- What is known of a direct run that a listing takes up: its output fits twice the stream, and both texts were accepted. Assumes nothing.
+-- What is known of a direct run that a listing takes up: its output is at most twice as long as the stream, so it fits the buffer, and the run's
+-- answer tells what it gives. Assumes nothing.
 use Prim.Native.Nat.{ℕ, suc, _+_, _*_, _≤_}
-use mathlib.Core.Path.{_≡_, refl, sym, ap, subst, _∙_}
+use mathlib.Core.Path.{_≡_, refl, sym, ap, ap₂, subst, _∙_}
 use mathlib.Core.Bool.{Bool, true, false, cond}
 use mathlib.Core.List.{List, [], _∷_, _++_}
+use mathlib.Core.Option.{Option, none, some}
 use native.Mathlib.Omega.{arith}
 use borrow.Author.Tests.{ltb-false}
 use lib.Dec.{ltb}
-use lib.ListN.{length, take, drop, length-append}
+use lib.ListN.{length, take, drop, length-append, length-map}
 use lib.Seq.{take-append-seam}
 use Rattle.ground.proofs.Truths.{differ}
 use Rattle.answers.specs.declared.Refusal.{Refusal}
 use Rattle.answers.specs.declared.Answer.{Answer}
+use Rattle.answers.specs.Given.{Given, gives, refuses, answerOf, bufferOf, Delivers}
 use Rattle.answers.proofs.Laws.{buffer-fits, answer-fits}
-use Rattle.answers.specs.declared.Verdict.{Verdict}
-use Rattle.operations.specs.Operation.{fenceByte}
+use Rattle.operations.specs.declared.Kind.{Kind}
+use Rattle.operations.specs.declared.Operation.{Operation}
+use Rattle.operations.specs.Operation.{byteOf}
 use Rattle.rule.specs.declared.situation.Situation.{Situation}
 use Rattle.rule.specs.declared.way.Way.{Way}
-use Rattle.rule.specs.Rule.{wayNumber}
-use Rattle.rule.specs.Pairs.{Model}
-use Rattle.rule.specs.Situation.{fresh}
-use Rattle.models.specs.Reading.{reading}
-use Rattle.runs.specs.declared.Move.{Move}
-use Rattle.runs.specs.Bytes.{Outcome, put, refuse, direct, fenceBytes}
-use Rattle.runs.specs.Call as call
-use Rattle.runs.specs.Call.{modelOf, onVerdict, onStream, onto, under, outcome}
-use Rattle.runs.specs.Moves.{ahead, movesOn, moves, moved}
-use Rattle.runs.proofs.ByMoves.{direct-moves}
+use Rattle.rule.specs.declared.way.Step.{Step}
+use Rattle.rule.specs.Pairs.{Model, fenceTable}
+use Rattle.rule.specs.Rule.{Ran, done, refused, behind, run}
+use Rattle.rule.specs.Situation.{asks, fresh, stepped, resumed, steps}
+use Rattle.rule.specs.Stream.{Stream, access, fence}
+use Rattle.rule.proofs.Theorems.{steps-are-the-rule}
+use Rattle.shims.specs.declared.Models.{Models}
+use Rattle.shims.specs.Models.{modelOf}
+use Rattle.runs.specs.Bytes.{Judged, good, bad, judged, operations, operationsFrom, fault, outcomeOf, direct, fenceBytes, puts}
+use Rattle.runs.specs.Call.{runGiven}
+use Rattle.listing.specs.inner.Limits.{RunOutput}
 
--- an output of at most so many bytes, or a refusal
-abbrev pub Short : ℕ → Outcome → Type 0
-Short n (put out) = length out ≤ n
-Short n (refuse why) = Unit {0}
+-- the rule puts out at most two operations for each that it gets
+abbrev Few : ℕ → Ran → Type 0
+Few n (done out) = length out ≤ n
+Few n (refused at) = Unit {0}
 
-longer : (bytes : List ℕ) (x : Outcome) (n m : ℕ) → length bytes + n ≤ m → Short n x → Short m (ahead bytes x)
-longer bytes (put out) n m l h = omega (arith, length-append bytes out)
-longer bytes (refuse why) n m l h = tt
+few-behind : (p : Stream) (x : Ran) (n m : ℕ) → length p + n ≤ m → Few n x → Few m (behind p x)
+few-behind p (done out) n m l h = omega (arith, length-append p out)
+few-behind p (refused at) n m l h = tt
 
-weaker : (x : Outcome) (n m : ℕ) → n ≤ m → Short n x → Short m x
-weaker (put out) n m l h = omega arith
-weaker (refuse why) n m l h = tt
+few-resumed : (k : Kind) (rest : Situation → Ran) (n m : ℕ) → n + 2 ≤ m → ((s : Situation) → Few n (rest s)) → (x : Step) → Few m (resumed k rest x)
+few-resumed k rest n m l h (Step.Plain next) = few-behind (access k) (rest next) n m (omega arith) (h next)
+few-resumed k rest n m l h (Step.Fenced g next) = few-behind (fence g ++ access k) (rest next) n m (omega arith) (h next)
+few-resumed k rest n m l h Step.Refused = tt
 
-move-short : (b n m : ℕ) (more : Situation → Outcome) → n + 2 ≤ m → ((s : Situation) → Short n (more s)) → (x : Move) → Short m (movesOn b more x)
-move-short b n m more l h (Move.Silent next) = weaker (more next) n m (omega arith) (h next)
-move-short b n m more l h (Move.Plain next) = longer (b ∷ []) (more next) n m (omega arith) (h next)
-move-short b n m more l h (Move.Fenced g next) = longer (fenceByte g ∷ b ∷ []) (more next) n m (omega arith) (h next)
-move-short b n m more l h (Move.Refused why) = tt
+few-steps : (way : Way) (up target : Model) (s : Situation) (ops : Stream) → Few (2 * length ops) (steps way up target s ops)
+unfolding steps
+few-steps way up target s [] = omega arith
+few-steps way up target s (Operation.Fence n ∷ ops) =
+    few-behind [] (steps way up target (asks (fenceTable up n) s) ops) (2 * length ops) (2 * suc (length ops)) (omega arith)
+    (few-steps way up target (asks (fenceTable up n) s) ops)
+few-steps way up target s (Operation.Access k ∷ ops) =
+    few-resumed k (λ (next : Situation). steps way up target next ops) (2 * length ops) (2 * suc (length ops)) (omega arith)
+    (λ next. few-steps way up target next ops) (stepped way (up .ppo) target s k)
 
-module _ (way : Way) where
-  moves-short : (up target : Model) (bytes : List ℕ) (s : Situation) (at : ℕ) → Short (2 * length bytes) (moves way up target s at bytes)
-  unfolding moves
-  moves-short up target [] s at = omega arith
-  moves-short up target (b ∷ bytes) s at =
-      move-short b (2 * length bytes) (2 * suc (length bytes)) (λ (next : Situation). moves way up target next (suc at) bytes) (omega arith)
-      (λ next. moves-short up target bytes next (suc at)) (moved way up target s at b)
+-- a stream has at most as many operations as bytes
+few-operations : (n at : ℕ) (stream : List ℕ) → length (operations n at stream) ≤ length stream
+unfolding operations
+few-operations n at [] = omega arith
+few-operations n at (b ∷ stream) = by (judged n at b) (few-operations n (suc at) stream)
+  where
+    by : (j : Judged) → length (operations n (suc at) stream) ≤ length stream
+        → length (operationsFrom j (operations n (suc at) stream)) ≤ suc (length stream)
+    by (good op) h = omega arith
+    by (bad why) h = omega arith
 
-  stream-short : (up target : Model) (stream : List ℕ) → Short 8192 (onStream stream (direct way up target stream))
-  stream-short up target stream = by (ltb 4096 (length stream)) refl
-    where
-      by : (q : Bool) → ltb 4096 (length stream) ≡ q → Short 8192 (cond q (refuse Refusal.OverLimit) (direct way up target stream))
-      by true e = tt
-      by false e =
-          let l : length stream ≤ 4096 = ltb-false 4096 (length stream) e in
-          weaker (direct way up target stream) (2 * length stream) 8192 (omega arith)
-          (subst (Short (2 * length stream)) (sym (direct-moves way up target stream)) (moves-short up target stream fresh 0))
+-- so a direct run gives bytes, at most so many, with their fences counted; or a refusal
+abbrev Short : ℕ → Given → Type 0
+Short n (gives bytes fences state) = (length bytes ≤ n) × (fences ≡ fenceBytes bytes) × (state ≡ 0)
+Short n (refuses why) = Unit {0}
 
-  onto-short : (up : Model) (target stream : List ℕ) (v : Verdict)
-      → Short 8192 (onVerdict v (onStream stream (direct way up (modelOf (reading target .model)) stream)))
-  onto-short up target stream Verdict.Accepted = stream-short up (modelOf (reading target .model)) stream
-  onto-short up target stream (Verdict.Refused why) = tt
+short-outcome : (n m : ℕ) → n ≤ m → (x : Ran) → Few n x → (f : Option Refusal) → Short m (outcomeOf 0 x f)
+short-outcome n m l (refused i) h f = tt
+short-outcome n m l (done out) h none = (omega (arith, length-map out byteOf), refl, refl)
+short-outcome n m l (done out) h (some why) = tt
 
-  under-short : (upstream target stream : List ℕ) (v : Verdict)
-      → Short 8192 (onVerdict v (onto way (modelOf (reading upstream .model)) target stream))
-  under-short upstream target stream Verdict.Accepted = onto-short (modelOf (reading upstream .model)) target stream (reading target .verdict)
-  under-short upstream target stream (Verdict.Refused why) = tt
+run-short : (m : Models) (stream : List ℕ) → Short 8192 (runGiven m stream)
+unfolding direct
+run-short m stream = by (ltb 4096 (length stream)) refl
+  where
+    up : Model
+    up = modelOf (m .upstream)
 
-  short : (upstream target stream : List ℕ) → Short 8192 (under way upstream target stream)
-  short upstream target stream = under-short upstream target stream (reading upstream .verdict)
+    on : Model
+    on = modelOf (m .target)
 
-  -- a run that gives an output has had both its texts accepted
-  accepted-by : (v : Verdict) (x : Outcome) {output : List ℕ} → onVerdict v x ≡ put output → (v ≡ Verdict.Accepted) × (x ≡ put output)
-  accepted-by Verdict.Accepted x e = (refl, e)
-  accepted-by (Verdict.Refused why) x e = differ (cc)
+    ops : Stream
+    ops = operations (length (up .fences)) 0 stream
 
-  pub both-accepted : (upstream target stream : List ℕ) {output : List ℕ} → under way upstream target stream ≡ put output
-      → (reading upstream .verdict ≡ Verdict.Accepted) × (reading target .verdict ≡ Verdict.Accepted)
-  both-accepted upstream target stream e =
-      let p = accepted-by (reading upstream .verdict) (onto way (modelOf (reading upstream .model)) target stream) e in
-      let q = accepted-by (reading target .verdict) (onStream stream (direct way (modelOf (reading upstream .model)) (modelOf (reading target .model)) stream)) (p .1) in
-      (p .0, q .0)
-
-  by-number : (upstream target stream : List ℕ) → outcome (wayNumber way) upstream target stream ≡ under way upstream target stream
-  by-number upstream target stream = by way
-    where
-      by : (w : Way) → outcome (wayNumber w) upstream target stream ≡ under w upstream target stream
-      by Way.Sparing = refl
-      by Way.Full = refl
+    by : (q : Bool) → ltb 4096 (length stream) ≡ q → Short 8192 (cond q (refuses Refusal.OverLimit) (direct (m .way) up on stream))
+    by true e = tt
+    by false e =
+        short-outcome (2 * length ops) 8192
+        (omega (arith, ltb-false 4096 (length stream) e, few-operations (length (up .fences)) 0 stream))
+        (run (m .way) up on ops)
+        (subst (Few (2 * length ops)) (sym (steps-are-the-rule (m .way) up on ops)) (few-steps (m .way) up on fresh ops))
+        (fault (length (up .fences)) 0 stream)
 
 -- a run that is done has left its output in the buffer, and counted its fences
-pub record Taken (x : Outcome) (w f : ℕ) (after : List ℕ) : Type 0 where
-  pub gives : x ≡ put (take w after)
+pub record Taken (x : Given) (w f : ℕ) (after : List ℕ) : Type 0 where
+  pub is : x ≡ puts (take w after)
   pub fits : w ≤ length after
-  pub few : length (take w after) ≤ 8192
-  pub count : f ≡ fenceBytes (take w after)
+  pub output : RunOutput (take w after) f
 
 -- what the run's answer tells, where the buffer holds 8,192 bytes
-module _ (x : Outcome) (is : Short 8192 x) (buffer : List ℕ) (size : length buffer ≡ 8192) where
-  run-refused : {why : Refusal} → Answer.Refused why ≡ call.answerOf x (length buffer) → x ≡ refuse why
-  run-refused {why} e = by x is e
+module _ (m : Models) (stream buffer : List ℕ) (size : length buffer ≡ 8192) {r : Answer} {after : List ℕ}
+    (d : Delivers (runGiven m stream) buffer r after) where
+  pub run-refused : {why : Refusal} → r ≡ Answer.Refused why → runGiven m stream ≡ refuses why
+  run-refused {why} e = by (runGiven m stream) (run-short m stream) (sym e ∙ d .answer)
     where
-      by : (x : Outcome) → Short 8192 x → Answer.Refused why ≡ call.answerOf x (length buffer) → x ≡ refuse why
-      by (put out) s e =
-          let z : Answer.Refused why ≡ Answer.Done (length out) (fenceBytes out) 0 = e ∙ answer-fits out (fenceBytes out) 0 (length buffer) (omega arith) in
+      by : (x : Given) → Short 8192 x → Answer.Refused why ≡ answerOf x (length buffer) → x ≡ refuses why
+      by (gives bytes f s) h e =
+          let z : Answer.Refused why ≡ Answer.Done (length bytes) f s = e ∙ answer-fits bytes f s (length buffer) (omega (arith, h .0)) in
           differ (cc)
-      by (refuse w) s e =
+      by (refuses w) h e =
           let z : why ≡ w = cc in
-          ap refuse (sym z)
+          ap refuses (sym z)
 
-  run-taken : {w f s : ℕ} {after : List ℕ} → Answer.Done w f s ≡ call.answerOf x (length buffer) → after ≡ call.bufferOf x buffer → Taken x w f after
-  run-taken {w} {f} {s} {after} e b = by x refl is e b
+  pub run-taken : {w f s : ℕ} → r ≡ Answer.Done w f s → Taken (runGiven m stream) w f after
+  run-taken {w} {f} {s} e = by (runGiven m stream) refl (run-short m stream) (sym e ∙ d .answer) (d .buffer)
     where
-      by : (y : Outcome) → x ≡ y → Short 8192 y → Answer.Done w f s ≡ call.answerOf y (length buffer) → after ≡ call.bufferOf y buffer → Taken x w f after
-      by (put out) h s e b =
-          let z : Answer.Done w f _ ≡ Answer.Done (length out) (fenceBytes out) 0 = e ∙ answer-fits out (fenceBytes out) 0 (length buffer) (omega arith) in
-          let n : w ≡ length out = cc in
-          let c : f ≡ fenceBytes out = cc in
-          let a : after ≡ out ++ drop (length out) buffer = b ∙ buffer-fits out buffer (omega arith) in
-          let t : take w after ≡ out = ap (take w) a ∙ ap (λ (k : ℕ). take k (out ++ drop (length out) buffer)) n ∙ take-append-seam out (drop (length out) buffer) in
+      by : (y : Given) → runGiven m stream ≡ y → Short 8192 y → Answer.Done w f s ≡ answerOf y (length buffer) → after ≡ bufferOf y buffer
+          → Taken (runGiven m stream) w f after
+      by (gives bytes g z) is h e b =
+          let same : Answer.Done w f s ≡ Answer.Done (length bytes) g z = e ∙ answer-fits bytes g z (length buffer) (omega (arith, h .0)) in
+          let n : w ≡ length bytes = cc in
+          let counted : f ≡ g = cc in
+          let all : after ≡ bytes ++ drop (length bytes) buffer = b ∙ buffer-fits bytes buffer (omega (arith, h .0)) in
+          let t : take w after ≡ bytes =
+          ap (take w) all
+          ∙ ap (λ (k : ℕ). take k (bytes ++ drop (length bytes) buffer)) n
+          ∙ take-append-seam bytes (drop (length bytes) buffer) in
           record {
-            gives = h ∙ ap put (sym t);
-            fits = omega (arith, n, ap length a, length-append out (drop (length out) buffer));
-            few = omega (arith, ap length t, s);
-            count = c ∙ ap fenceBytes (sym t);
+            is = is ∙ ap₂ (λ (k j : ℕ). gives bytes k j) (h .1) (h .2) ∙ ap puts (sym t);
+            fits = omega (arith, n, ap length all, length-append bytes (drop (length bytes) buffer));
+            output = record {
+              fits = omega (arith, ap length t, h .0);
+              count = counted ∙ h .1 ∙ ap fenceBytes (sym t);
+            };
           }
-      by (refuse why) h s e b = differ (cc)
-
--- the same of the call, with the way by its number
-module _ (way : Way) (upstream target stream : List ℕ) {n : ℕ} (is : n ≡ wayNumber way) (buffer : List ℕ) (size : length buffer ≡ 8192) where
-  the-run : outcome n upstream target stream ≡ under way upstream target stream
-  the-run = ap (λ (k : ℕ). outcome k upstream target stream) is ∙ by-number way upstream target stream
-
-  pub call-refused : {r : Answer} {why : Refusal} → r ≡ call.answerOf (outcome n upstream target stream) (length buffer) → r ≡ Answer.Refused why
-      → under way upstream target stream ≡ refuse why
-  call-refused e h =
-      run-refused (under way upstream target stream) (short way upstream target stream) buffer size
-      (sym h ∙ e ∙ ap (λ (x : Outcome). call.answerOf x (length buffer)) the-run)
-
-  pub call-taken : {r : Answer} {after : List ℕ} {w f s : ℕ} → r ≡ call.answerOf (outcome n upstream target stream) (length buffer)
-      → after ≡ call.bufferOf (outcome n upstream target stream) buffer → r ≡ Answer.Done w f s → Taken (under way upstream target stream) w f after
-  call-taken {s = s} e b h =
-      run-taken (under way upstream target stream) (short way upstream target stream) buffer size {s = s}
-      (sym h ∙ e ∙ ap (λ (x : Outcome). call.answerOf x (length buffer)) the-run) (b ∙ ap (λ (x : Outcome). call.bufferOf x buffer) the-run)
+      by (refuses why) is h e b = differ (cc)

@@ -12,9 +12,9 @@ use lib.Seq.{take-all, drop-drop}
 use Rattle.ground.proofs.Truths.{differ}
 use Rattle.ground.specs.Bytes.{bytes, sameBytes}
 use Rattle.rule.specs.declared.way.Way.{Way}
-use Rattle.runs.specs.declared.WayRead.{WayRead}
-use Rattle.listing.specs.Shape.{onto, lines, wayIn, isRun, streamOf, endingFrom, endingOf}
-use Rattle.listing.specs.Finding.{LineOf, RunOf, OnlyRun, EndingOf}
+use Rattle.shims.specs.declared.WayRead.{WayRead}
+use Rattle.listing.specs.Shape.{prefixed, lines, wayIn, isRun, streamOf, endingFrom, endingOf}
+use Rattle.listing.specs.inner.Finding.{LineOf, RunOf, OnlyRun, EndingOf}
 use Rattle.listing.proofs.Lines.{never-ending, part-rest}
 
 -- one line is all
@@ -31,18 +31,18 @@ pub run-alone : {t : List ℕ} {n : ℕ} {q : Bool} → LineOf t n → n ≡ len
 run-alone {t} {n} {q} line e r = by-run t q (sym r) (only-one line e)
 
 -- more lines follow
-onto-some : (b : ℕ) (xs : List (List ℕ)) → (x : List ℕ) × (ys : List (List ℕ)) × (onto b xs ≡ x ∷ ys)
-onto-some b [] = (b ∷ [], [], refl)
-onto-some b (x ∷ xs) = (b ∷ x, xs, refl)
+prefixed-some : (b : ℕ) (xs : List (List ℕ)) → (x : List ℕ) × (ys : List (List ℕ)) × (prefixed b xs ≡ x ∷ ys)
+prefixed-some b [] = (b ∷ [], [], refl)
+prefixed-some b (x ∷ xs) = (b ∷ x, xs, refl)
 
 some-line : (t : List ℕ) → 0 < length t → (x : List ℕ) × (xs : List (List ℕ)) × (lines t ≡ x ∷ xs)
 unfolding lines
 some-line [] l = absurd (omega arith)
 some-line (b ∷ t) l = by (eqb b 10)
   where
-    by : (q : Bool) → (x : List ℕ) × (xs : List (List ℕ)) × (cond q ((b ∷ []) ∷ lines t) (onto b (lines t)) ≡ x ∷ xs)
+    by : (q : Bool) → (x : List ℕ) × (xs : List (List ℕ)) × (cond q ((b ∷ []) ∷ lines t) (prefixed b (lines t)) ≡ x ∷ xs)
     by true = (b ∷ [], lines t, refl)
-    by false = onto-some b (lines t)
+    by false = prefixed-some b (lines t)
 
 pub run-and-more : {t : List ℕ} {n : ℕ} → LineOf t n → (n ≡ length t → ⊥) → OnlyRun t false
 run-and-more {t} {n} line e =

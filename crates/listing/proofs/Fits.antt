@@ -11,7 +11,7 @@ use Rattle.ground.proofs.Truths.{differ}
 use Rattle.answers.specs.declared.Refusal.{Refusal}
 use Rattle.answers.specs.declared.Answer.{Answer}
 use Rattle.answers.specs.Buffer.{answerWith}
-use Rattle.answers.specs.Given.{Given, gives, refuses, answerOf, Answers}
+use Rattle.answers.specs.Given.{Given, gives, refuses, answerOf, Delivers, Answers}
 
 pub answer-within : (text : List ℕ) (f z room : ℕ) {w g s : ℕ} → Answer.Done w g s ≡ answerWith text f z room → w ≤ room
 unfolding answerWith
@@ -24,9 +24,14 @@ answer-within text f z room {w} {g} {s} e = by (leb (length text) room) refl e
         omega (arith, leb-true (length text) room h)
     by false h e = differ (cc)
 
-pub listing-within : {P : Given → Type 0} (out : List ℕ) {r : Answer} {after : List ℕ} {w g s : ℕ} → Answers P out r after → r ≡ Answer.Done w g s → w ≤ length out
-listing-within out {w = w} {g = g} {s = s} a e = by (a .given) ((cc))
+pub delivered-within : {x : Given} (out : List ℕ) {r : Answer} {after : List ℕ} {w g s : ℕ} → Delivers x out r after → r ≡ Answer.Done w g s
+    → w ≤ length out
+delivered-within {x} out {w = w} {g = g} {s = s} d e = by x ((cc))
   where
     by : (x : Given) → Answer.Done w g s ≡ answerOf x (length out) → w ≤ length out
     by (gives text f z) e = answer-within text f z (length out) e
     by (refuses why) e = differ (cc)
+
+pub listing-within : {P : Given → Type 0} (out : List ℕ) {r : Answer} {after : List ℕ} {w g s : ℕ} → Answers P out r after → r ≡ Answer.Done w g s
+    → w ≤ length out
+listing-within out a e = delivered-within out (a .delivered) e

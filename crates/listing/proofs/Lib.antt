@@ -1,9 +1,9 @@
 pub mod Lines
 pub mod Endings
-pub mod Decimals
 pub mod Printing
-pub mod Made
+pub mod Longest
+pub mod Fits
 pub mod Direct
+pub mod Made
 pub mod Stages
 pub mod Unique
-pub mod Fits

@@ -13,9 +13,9 @@ use lib.Seq.{take-all, take-add, drop-drop}
 use Rattle.bytes.specs.Bytes.{indexOf, indexAfter}
 use Rattle.ground.proofs.Sameness.{same-is}
 use Rattle.ground.specs.Bytes.{bytes, sameBytes}
-use Rattle.runs.specs.declared.WayRead.{WayRead}
-use Rattle.listing.specs.Shape.{onto, lines, Cut, behind, through, wayIn, isRun, endingFrom, endingOf}
-use Rattle.listing.specs.Finding.{LineOf, NoLine, TextOf, GoesOn}
+use Rattle.shims.specs.declared.WayRead.{WayRead}
+use Rattle.listing.specs.Shape.{prefixed, lines, Cut, joined, through, wayIn, isRun, endingFrom, endingOf}
+use Rattle.listing.specs.inner.Finding.{LineOf, NoLine, TextOf, GoesOn}
 
 -- a line up to its first line feed
 first-line : (l : List ℕ) → indexOf 10 l < length l → lines l ≡ take (suc (indexOf 10 l)) l ∷ lines (drop (suc (indexOf 10 l)) l)
@@ -25,18 +25,18 @@ first-line (b ∷ l) h = by (eqb b 10) h (first-line l)
   where
     by : (q : Bool) → indexAfter q (indexOf 10 l) < length (b ∷ l)
         → (indexOf 10 l < length l → lines l ≡ take (suc (indexOf 10 l)) l ∷ lines (drop (suc (indexOf 10 l)) l))
-        → cond q ((b ∷ []) ∷ lines l) (onto b (lines l))
+        → cond q ((b ∷ []) ∷ lines l) (prefixed b (lines l))
         ≡ take (suc (indexAfter q (indexOf 10 l))) (b ∷ l) ∷ lines (drop (suc (indexAfter q (indexOf 10 l))) (b ∷ l))
     by true h rest = refl
-    by false h rest = ap (onto b) (rest (le-of-suc-le-suc h))
+    by false h rest = ap (prefixed b) (rest (le-of-suc-le-suc h))
 
 abbrev whole : List ℕ → List (List ℕ)
 whole [] = []
 whole (b ∷ l) = (b ∷ l) ∷ []
 
-onto-whole : (b : ℕ) (l : List ℕ) → onto b (whole l) ≡ (b ∷ l) ∷ []
-onto-whole b [] = refl
-onto-whole b (c ∷ l) = refl
+prefixed-whole : (b : ℕ) (l : List ℕ) → prefixed b (whole l) ≡ (b ∷ l) ∷ []
+prefixed-whole b [] = refl
+prefixed-whole b (c ∷ l) = refl
 
 -- a text without a line feed is no line or one
 only-line : (l : List ℕ) → length l ≤ indexOf 10 l → lines l ≡ whole l
@@ -45,9 +45,9 @@ only-line [] h = refl
 only-line (b ∷ l) h = by (eqb b 10) h (only-line l)
   where
     by : (q : Bool) → suc (length l) ≤ indexAfter q (indexOf 10 l) → (length l ≤ indexOf 10 l → lines l ≡ whole l)
-        → cond q ((b ∷ []) ∷ lines l) (onto b (lines l)) ≡ (b ∷ l) ∷ []
+        → cond q ((b ∷ []) ∷ lines l) (prefixed b (lines l)) ≡ (b ∷ l) ∷ []
     by true h rest = absurd (omega arith)
-    by false h rest = ap (onto b) (rest (le-of-suc-le-suc h)) ∙ onto-whole b l
+    by false h rest = ap (prefixed b) (rest (le-of-suc-le-suc h)) ∙ prefixed-whole b l
 
 -- and none of its bytes is one
 no-feed : (l : List ℕ) (i : ℕ) → length l ≤ indexOf 10 l → i < length l → getD l i 0 ≡ 10 → ⊥
@@ -123,11 +123,11 @@ line-endless t n e h =
 -- what a line with its line feed says of the text that it begins
 module _ {t : List ℕ} {n : ℕ} (line : LineOf t n) where
   by-line : (q : Bool) → sameBytes (take n t) (bytes "end\n") ≡ q
-      → through (lines t) ≡ cond q (some (record { text = take n t; rest = lines (drop n t) })) (behind (take n t) (through (lines (drop n t))))
+      → through (lines t) ≡ cond q (some (record { text = take n t; rest = lines (drop n t) })) (joined (take n t) (through (lines (drop n t))))
   unfolding through
   by-line q e =
       ap through (line .first)
-      ∙ ap (λ (q : Bool). cond q (some (record { text = take n t; rest = lines (drop n t) })) (behind (take n t) (through (lines (drop n t))))) e
+      ∙ ap (λ (q : Bool). cond q (some (record { text = take n t; rest = lines (drop n t) })) (joined (take n t) (through (lines (drop n t))))) e
 
   pub line-last : sameBytes (take n t) (bytes "end\n") ≡ true → TextOf t n
   line-last e = record { inside = line .inside; whole = by-line true e }
@@ -136,38 +136,38 @@ module _ {t : List ℕ} {n : ℕ} (line : LineOf t n) where
   line-more e = record { some = line .some; inside = line .inside; more = by-line false e }
 
 -- a text found from a place on, line after line
-behind-behind : (x y : List ℕ) (c : Option Cut) → behind x (behind y c) ≡ behind (x ++ y) c
-behind-behind x y none = refl
-behind-behind x y (some c) = ap (λ (t : List ℕ). some (record { text = t; rest = c .rest })) (sym (append-assoc x y (c .text)))
+joined-joined : (x y : List ℕ) (c : Option Cut) → joined x (joined y c) ≡ joined (x ++ y) c
+joined-joined x y none = refl
+joined-joined x y (some c) = ap (λ (t : List ℕ). some (record { text = t; rest = c .rest })) (sym (append-assoc x y (c .text)))
 
-behind-none : (c : Option Cut) → behind [] c ≡ c
-behind-none none = refl
-behind-none (some c) = refl
+joined-none : (c : Option Cut) → joined [] c ≡ c
+joined-none none = refl
+joined-none (some c) = refl
 
-abbrev pub Found-so-far : List ℕ → ℕ → Type 0
-Found-so-far t at = through (lines t) ≡ behind (take at t) (through (lines (drop at t)))
+abbrev pub So-far : List ℕ → ℕ → Type 0
+So-far t at = through (lines t) ≡ joined (take at t) (through (lines (drop at t)))
 
-pub none-so-far : (t : List ℕ) → Found-so-far t 0
-none-so-far t = sym (behind-none (through (lines t)))
+pub none-so-far : (t : List ℕ) → So-far t 0
+none-so-far t = sym (joined-none (through (lines t)))
 
-module _ (t : List ℕ) (at : ℕ) (so : Found-so-far t at) where
-  pub more-so-far : {n : ℕ} → GoesOn (drop at t) n → Found-so-far t (at + n)
+module _ (t : List ℕ) (at : ℕ) (so : So-far t at) where
+  pub more-so-far : {n : ℕ} → GoesOn (drop at t) n → So-far t (at + n)
   more-so-far {n} g =
-      so ∙ ap (behind (take at t)) (g .more)
-      ∙ behind-behind (take at t) (take n (drop at t)) (through (lines (drop n (drop at t))))
-      ∙ ap₂ (λ (x y : List ℕ). behind x (through (lines y))) (sym (take-add at n t)) (drop-drop n at t)
+      so ∙ ap (joined (take at t)) (g .more)
+      ∙ joined-joined (take at t) (take n (drop at t)) (through (lines (drop n (drop at t))))
+      ∙ ap₂ (λ (x y : List ℕ). joined x (through (lines y))) (sym (take-add at n t)) (drop-drop n at t)
 
   pub text-found : {n : ℕ} → at ≤ length t → TextOf (drop at t) n → TextOf t (at + n)
   text-found {n} l f =
       record {
         inside = omega (arith, f .inside, length-drop at t);
         whole =
-            so ∙ ap (behind (take at t)) (f .whole)
+            so ∙ ap (joined (take at t)) (f .whole)
             ∙ ap₂ (λ (x y : List ℕ). some (record { text = x; rest = lines y })) (sym (take-add at n t)) (drop-drop n at t);
       }
 
   pub no-text-found : through (lines (drop at t)) ≡ none → through (lines t) ≡ none
-  no-text-found e = so ∙ ap (behind (take at t)) e
+  no-text-found e = so ∙ ap (joined (take at t)) e
 
 -- what is left of a text from a place on, as a part of it
 pub part-rest : (t : List ℕ) (at : ℕ) → take (length t - at) (drop at t) ≡ drop at t

@@ -1,32 +1,43 @@
--- What is listed once the machine is made. Assumes nothing.
-use Prim.Native.Nat.{ℕ, _+_, _≤_}
-use mathlib.Core.Path.{_≡_, sym, ap, ap₂, subst, subst₂, _∙_}
+-- What is listed once the machine is made: each outcome is what the rule's machine comes to, and a machine that is made is within the limits.
+-- Assumes nothing.
+use Prim.Native.Nat.{ℕ, _+_, _*_, _%_, _/_, _≤_, _<_}
+use mathlib.Core.Path.{_≡_, sym, ap, ap₂, subst, _∙_}
+use mathlib.Core.Bool.{Bool, true, false, cond}
 use mathlib.Core.List.{List, [], _∷_}
 use native.Mathlib.Omega.{arith}
-use lib.ListN.{length, take}
-use lib.Seq.{length-take-le}
-use Rattle.answers.specs.Given.{gives}
+use lib.Dec.{eqb}
+use lib.ListN.{length}
+use Rattle.ground.specs.Bytes.{at}
+use Rattle.answers.specs.declared.Answer.{Answer}
+use Rattle.answers.specs.declared.Verdict.{Verdict}
+use Rattle.answers.specs.Given.{gives, Delivers, Answers}
 use Rattle.operations.specs.declared.Operation.{Operation}
 use Rattle.operations.specs.declared.Byte.{Byte}
 use Rattle.operations.specs.Operation.{byteIs}
+use Rattle.operations.specs.Alphabet.{lettersWith, stride}
 use Rattle.rule.specs.declared.way.Way.{Way}
-use Rattle.models.specs.declared.model.Model.{Model}
-use Rattle.models.specs.declared.model.Reading.{Reading}
-use Rattle.models.specs.Reading.{reading}
-use Rattle.models.specs.Told.{Told}
-use Rattle.writing.specs.Writing.{unfilled}
-use Rattle.runs.proofs.Whole.{whole-when}
+use Rattle.printing.proofs.Names.{unfilled-short}
+use Rattle.shims.specs.declared.WayRead.{WayRead}
+use Rattle.shims.specs.declared.Models.{Models}
+use Rattle.shims.specs.declared.Opening.{Opening}
+use Rattle.shims.specs.Models.{modelOf}
+use Rattle.shims.specs.Opening.{openedBy}
+use Rattle.shims.proofs.Theorems.{opens}
+use Rattle.shims.proofs.Fences.{few-read, few-fences}
 use Rattle.runs.specs.Bytes.{isFence, fenceBytes}
+use Rattle.mealy.specs.Runs.{refused, taken}
 use Rattle.machine.specs.declared.machine.Machine.{Machine}
 use Rattle.machine.specs.declared.machine.Outcome.{Outcome}
-use Rattle.machine.specs.Shim.{shimOf}
-use Rattle.machine.specs.Rows.{rowOf}
-use Rattle.machine.specs.Generated.{Built, Generated}
-use Rattle.generation.proofs.Canonicals.{few-read, all-named}
-use Rattle.listing.specs.Printed.{listing}
-use Rattle.listing.specs.Listed.{ruleOf, textOf, MachineListed, crowded, overfull, made}
-use Rattle.listing.specs.Making.{madeGiven, MadeListable, Sixteen, Ran, Accepted}
+use Rattle.machine.specs.Rows.{decoded, answerAt}
+use Rattle.machine.specs.Generated.{Built}
+use Rattle.making.specs.Made.{MachineMade}
+use Rattle.making.proofs.Read.{made-read}
+use Rattle.listing.specs.Printed.{nextState, listing}
+use Rattle.listing.specs.Listed.{ruleOf, listingOf, listedText, MachineListed, crowded, overfull, made}
+use Rattle.listing.specs.inner.Limits.{Listable, Sixteen, RunOutput, Limited}
+use Rattle.listing.specs.inner.Making.{madeListing, madeGiven, MadeListable}
 
+-- an output has at most as many fences as bytes
 one-fence : (b : Byte) → isFence b ≤ 1
 one-fence Byte.Nothing = omega arith
 one-fence (Byte.Is (Operation.Access k)) = omega arith
@@ -37,58 +48,80 @@ unfolding fenceBytes
 fences-few [] = omega arith
 fences-few (b ∷ l) = omega (arith, one-fence (byteIs b), fences-few l)
 
-module _ (way : Way) (upstream target : Model) (output : List ℕ) (fences : ℕ) (u : Sixteen upstream) (t : Sixteen target) (ran : Ran output fences)
+module _ (m : Models) (sixteen : Sixteen m) (output : List ℕ) (fences : ℕ) (ran : RunOutput output fences)
     (rows rows′ : List ℕ) (size : length rows ≡ 5100) where
-  abbrev ups : List ℕ
-  ups = take (upstream .fences) (upstream .tables)
-
-  abbrev targets : List ℕ
-  targets = take (target .fences) (target .tables)
-
   abbrev Makes : Outcome → Type 0
-  Makes r = Built (ruleOf way upstream target) way (length ups) (length targets) rows r rows′
-
-  makes : (r : Outcome) → Generated way (upstream .ppo) ups (target .ppo) targets rows r rows′ → Makes r
-  makes r g =
-      subst₂ (λ (a b : List ℕ). Built (shimOf way (upstream .ppo) a (target .ppo) b) way (length a) (length b) rows r rows′)
-      (all-named upstream (u .few) (u .whole)) (all-named target (t .few) (t .whole)) g
+  Makes r =
+      Built (ruleOf m) (m .way) (length (modelOf (m .upstream) .fences)) (length (modelOf (m .target) .fences)) rows r rows′
 
   listable : (r : Outcome) → Makes r → MadeListable r rows′ output fences
-  listable (Outcome.Made x) m =
+  listable (Outcome.Made x) b =
       record {
-        states = m .few-states;
-        letters = omega (arith, m .its-ups, length-take-le (upstream .fences) (upstream .tables) (u .whole), u .few);
-        rows-there = omega (arith, m .room, m .size);
-        output-fits = ran .fits;
+        few-states = b .few-states;
+        rows-there = record {
+          few-letters = omega (arith, b .its-ups, few-fences (m .upstream) (sixteen .upstream));
+          whole = omega (arith, b .room, b .size);
+        };
+        short-output = ran .fits;
         few-fences = omega (arith, ran .fits, ran .count, fences-few output);
       }
-  listable Outcome.Situations m = tt
-  listable Outcome.States m = tt
-  listable Outcome.Room m = tt
+  listable Outcome.Situations b = tt
+  listable Outcome.States b = tt
+  listable Outcome.Room b = tt
 
-  listed-as : (x : Machine) → x .ups ≡ length ups
-      → gives (textOf way upstream target output (x .states) (rowOf rows′)) (fenceBytes output) 0
-      ≡ madeGiven (Outcome.Made x) (upstream .name) (target .name) way rows′ output fences
+  listed-as : (x : Machine) → x .ups ≡ length (modelOf (m .upstream) .fences)
+      → gives (listedText m output (x .states) (answerAt rows′)) (fenceBytes output) 0 ≡ madeGiven (Outcome.Made x) m rows′ output fences
   listed-as x e =
-      ap₂ (λ (n f : ℕ). gives (listing (unfilled (upstream .name .bytes)) (unfilled (target .name .bytes)) way (x .states) (4 + n) (rowOf rows′) output f) f 0)
-      (sym e) (sym (ran .count))
+      ap₂ (λ (n f : ℕ). gives (listing (listingOf m (x .states) (lettersWith n) (answerAt rows′) output f)) f 0) (sym e) (sym (ran .count))
 
-  listed : (r : Outcome) → Makes r → MachineListed way upstream target output (madeGiven r (upstream .name) (target .name) way rows′ output fences)
-  listed (Outcome.Made x) m =
-      subst (MachineListed way upstream target output) (listed-as x (m .its-ups)) (made (m .few-situations) (m .few-states) (m .states))
-  listed Outcome.Situations m = crowded (m .many)
-  listed Outcome.States m = overfull (m .few-situations) (m .many)
-  listed Outcome.Room m = absurd (omega (arith, m .short, m .few-states, size))
+  listed : (r : Outcome) → Makes r → MachineListed m output (madeGiven r m rows′ output fences)
+  listed (Outcome.Made x) b =
+      subst (MachineListed m output) (listed-as x (b .its-ups)) (made (b .few-situations) (b .few-states) (b .states))
+  listed Outcome.Situations b = crowded (b .many)
+  listed Outcome.States b = overfull (b .few-situations) (b .many)
+  listed Outcome.Room b = absurd (omega (arith, b .short, b .few-states, size))
 
-  pub made-listable : (r : Outcome) → Generated way (upstream .ppo) ups (target .ppo) targets rows r rows′ → MadeListable r rows′ output fences
-  made-listable r g = listable r (makes r g)
+  pub made-listable : (r : Outcome) → MachineMade m rows r rows′ → MadeListable r rows′ output fences
+  made-listable r g = listable r (made-read m (sixteen .upstream) (sixteen .target) g)
 
-  pub made-listed : (r : Outcome) → Generated way (upstream .ppo) ups (target .ppo) targets rows r rows′
-      → MachineListed way upstream target output (madeGiven r (upstream .name) (target .name) way rows′ output fences)
-  made-listed r g = listed r (makes r g)
+  pub made-listed : {r : Outcome} {out after : List ℕ} {a : Answer} → MachineMade m rows r rows′
+      → Delivers (madeGiven r m rows′ output fences) out a after → Answers (MachineListed m output) out a after
+  made-listed {r} g d = record {
+    given = madeGiven r m rows′ output fences;
+    right = listed r (made-read m (sixteen .upstream) (sixteen .target) g);
+    delivered = d;
+  }
 
--- a model that was read
-pub sixteen-read : {t : List ℕ} {r : Reading} → r ≡ reading t → Told t r → Accepted t → Sixteen (r .model)
-sixteen-read e told a =
-    let v = ap (λ (r : Reading). r .verdict) e ∙ a in
-    record { few = few-read told v; whole = whole-when told v }
+-- models that were read
+sixteen-read : (read : WayRead) (upstream target : List ℕ) → openedBy read upstream target .verdict ≡ Verdict.Accepted
+    → Sixteen (openedBy read upstream target .models)
+sixteen-read read upstream target e =
+    let o = opens read upstream target e in
+    record { upstream = few-read upstream (o .upstream-read); target = few-read target (o .target-read) }
+
+pub sixteen-opened : {o : Opening} (way : Way) (upstream target : List ℕ) → o ≡ openedBy (WayRead.Is way) upstream target
+    → o .verdict ≡ Verdict.Accepted → Sixteen (o .models)
+sixteen-opened way upstream target is e =
+    subst (λ (x : Opening). Sixteen (x .models)) (sym is)
+    (sixteen-read (WayRead.Is way) upstream target (sym (ap (λ (x : Opening). x .verdict) is) ∙ e))
+
+-- the next state of a word is below 256
+next-small : (w : ℕ) → nextState (decoded w) < 1000
+next-small w = by (eqb (w / 256) 254)
+  where
+    by : (q : Bool) → nextState (cond q refused (taken (w / 256) (w % 256))) < 1000
+    by true = omega arith
+    by false = omega arith
+
+-- a machine within the limits has a listing within them
+pub listable-limited : (m : Models) (x : Machine) (rows output : List ℕ) (fences : ℕ) → length (m .upstream .name .bytes) ≡ 16
+    → length (m .target .name .bytes) ≡ 16 → Listable x rows output fences → Limited (madeListing m x rows output fences)
+listable-limited m x rows output fences u t l = record {
+  short-upstream = omega (arith, unfilled-short (m .upstream .name .bytes), u);
+  short-target = omega (arith, unfilled-short (m .target .name .bytes), t);
+  few-states = l .few-states;
+  few-letters = l .rows-there .few-letters;
+  next-states = λ i a. next-small (at rows (i * stride + a));
+  short-output = l .short-output;
+  few-fences = l .few-fences;
+}

@@ -9,7 +9,7 @@ use Rattle.answers.specs.declared.Answer.{Answer}
 use Rattle.answers.specs.Given.{Answers}
 use Rattle.answers.proofs.Given.{answers-refusal, answers-by}
 use Rattle.listing.specs.Shape.{lines, through, endingOf, Parts, withEnding, withTarget, withUpstream, shape}
-use Rattle.listing.specs.Finding.{TextOf}
+use Rattle.listing.specs.inner.Finding.{TextOf}
 use Rattle.listing.specs.Listed.{PartsListed, ShapeListed, shapeless, shaped, Listed, over, within}
 use Rattle.listing.proofs.Lines.{part-rest}
 

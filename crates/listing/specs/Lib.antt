@@ -1,7 +1,4 @@
-pub mod Shape
-pub mod Finding
-pub mod Decimal
-pub mod Printed
-pub mod Buffer
 pub mod Listed
-pub mod Making
+pub mod Printed
+pub mod Shape
+pub mod inner

@@ -9,44 +9,55 @@ use lib.ListN.{length}
 use Rattle.answers.specs.declared.Refusal.{Refusal}
 use Rattle.answers.specs.Given.{Given, gives, refuses}
 use Rattle.rule.specs.declared.situation.Situation.{Situation}
-use Rattle.rule.specs.declared.way.Way.{Way}
-use Rattle.models.specs.declared.model.Model.{Model}
-use Rattle.models.specs.Reading.{reading}
-use Rattle.writing.specs.Writing.{unfilled}
-use Rattle.runs.specs.Bytes.{Outcome, put as ran, refuse as stopped, fenceBytes}
-use Rattle.runs.specs.Call.{modelOf, under}
-use Rattle.mealy.specs.Runs.{Answer as Told, Machine, Same}
+use Rattle.printing.specs.Name.{unfilled}
+use Rattle.shims.specs.declared.WayRead.{WayRead}
+use Rattle.shims.specs.declared.Models.{Models}
+use Rattle.shims.specs.Models.{modelOf}
+use Rattle.shims.specs.Opening.{openedBy, GivenOnOpened}
+use Rattle.runs.specs.Bytes.{fenceBytes, puts}
+use Rattle.runs.specs.Call.{runGiven}
+use Rattle.mealy.specs.Runs.{Answer, Machine, Same}
 use Rattle.mealy.specs.Arrivals.{More, AtMost, Described}
 use Rattle.machine.specs.Shim.{shim}
 use Rattle.listing.specs.Shape.{Parts, shape}
-use Rattle.listing.specs.Printed.{listing}
-
--- the direct run of the stream, with the refusals of the two texts and of the stream
-abbrev pub direct : Parts → Outcome
-direct p = under (p .way) (p .upstream) (p .target) (p .stream)
+use Rattle.listing.specs.Printed.{Listing, listing}
 
 -- the rule of two models and a way, as a machine
-abbrev pub ruleOf : Way → Model → Model → Machine Situation ℕ
-ruleOf way upstream target = shim way (modelOf upstream) (modelOf target)
+abbrev pub ruleOf : Models → Machine Situation ℕ
+ruleOf m = shim (m .way) (modelOf (m .upstream)) (modelOf (m .target))
 
--- the text for so many states with these rows, and a run's output
-abbrev pub textOf : Way → Model → Model → List ℕ → ℕ → (ℕ → ℕ → Told ℕ ℕ) → List ℕ
-textOf way upstream target output k row =
-    listing (unfilled (upstream .name .bytes)) (unfilled (target .name .bytes)) way k (ruleOf way upstream target .letters) row output (fenceBytes output)
+-- the listing of two models: so many states of so many letters with these rows, and a run's output and fences
+abbrev pub listingOf : Models → ℕ → ℕ → (ℕ → ℕ → Answer ℕ ℕ) → List ℕ → ℕ → Listing
+listingOf m states letters row output fences = record {
+  upstream = unfilled (m .upstream .name .bytes);
+  target = unfilled (m .target .name .bytes);
+  way = m .way;
+  states = states;
+  letters = letters;
+  row = row;
+  output = output;
+  fences = fences;
+}
+
+-- its text, with the letters of the rule's machine and the fences of the output
+abbrev pub listedText : Models → List ℕ → ℕ → (ℕ → ℕ → Answer ℕ ℕ) → List ℕ
+listedText m output states row = listing (listingOf m states (ruleOf m .letters) row output (fenceBytes output))
 
 -- after the run: 8, 9, or the listing of the machine's states
-pub data MachineListed (way : Way) (upstream target : Model) (output : List ℕ) : Given → Type 0 where
-  crowded : More (ruleOf way upstream target) _≡_ 4096 → MachineListed way upstream target output (refuses Refusal.TooManySituations)
-  overfull : AtMost (ruleOf way upstream target) _≡_ 4096 → More (ruleOf way upstream target) (Same (ruleOf way upstream target)) 255
-      → MachineListed way upstream target output (refuses Refusal.TooManyStates)
-  made : {k : ℕ} {row : ℕ → ℕ → Told ℕ ℕ} → AtMost (ruleOf way upstream target) _≡_ 4096 → k ≤ 255
-      → Described (ruleOf way upstream target) (Same (ruleOf way upstream target)) k row
-      → MachineListed way upstream target output (gives (textOf way upstream target output k row) (fenceBytes output) 0)
+pub data MachineListed (m : Models) (output : List ℕ) : Given → Type 0 where
+  crowded : More (ruleOf m) _≡_ 4096 → MachineListed m output (refuses Refusal.TooManySituations)
+  overfull : AtMost (ruleOf m) _≡_ 4096 → More (ruleOf m) (Same (ruleOf m)) 255 → MachineListed m output (refuses Refusal.TooManyStates)
+  made : {k : ℕ} {row : ℕ → ℕ → Answer ℕ ℕ} → AtMost (ruleOf m) _≡_ 4096 → k ≤ 255 → Described (ruleOf m) (Same (ruleOf m)) k row
+      → MachineListed m output (gives (listedText m output k row) (fenceBytes output) 0)
 
-pub data PartsListed (p : Parts) : Given → Type 0 where
-  halts : {why : Refusal} → direct p ≡ stopped why → PartsListed p (refuses why)
-  runs : {output : List ℕ} {g : Given} → direct p ≡ ran output
-      → MachineListed (p .way) (reading (p .upstream) .model) (reading (p .target) .model) output g → PartsListed p g
+-- the direct run of the stream comes first: its refusal, or its output
+pub data ModelsListed (m : Models) (stream : List ℕ) : Given → Type 0 where
+  halts : {why : Refusal} → runGiven m stream ≡ refuses why → ModelsListed m stream (refuses why)
+  runs : {output : List ℕ} {g : Given} → runGiven m stream ≡ puts output → MachineListed m output g → ModelsListed m stream g
+
+-- and before it the two texts are read
+abbrev pub PartsListed : Parts → Given → Type 0
+PartsListed p = GivenOnOpened (openedBy (WayRead.Is (p .way)) (p .upstream) (p .target)) λ (m : Models). ModelsListed m (p .stream)
 
 -- the shape comes before all else, but for the length
 pub data ShapeListed : Option Parts → Given → Type 0 where

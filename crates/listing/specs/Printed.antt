@@ -12,7 +12,7 @@ use Rattle.operations.specs.Alphabet.{operationOf}
 use Rattle.operations.specs.Operation.{fenceByte, byteOf}
 use Rattle.rule.specs.declared.way.Way.{Way}
 use Rattle.mealy.specs.Runs.{Answer, refused, taken}
-use Rattle.listing.specs.Decimal.{decimal}
+use Rattle.printing.specs.Decimal.{decimal}
 
 abbrev pub wayWord : Way → List ℕ
 wayWord Way.Full = bytes "full"
@@ -51,10 +51,26 @@ rowLines row letters (suc state) = rowLines row letters state ++ stateLines stat
 abbrev pub outLine : List ℕ → List ℕ
 outLine output = bytes "out " ++ (output ++ bytes "\n")
 
--- k states of so many letters, their answers, the run's output and its fences
-abbrev pub listing : List ℕ → List ℕ → Way → ℕ → ℕ → (ℕ → ℕ → Answer ℕ ℕ) → List ℕ → ℕ → List ℕ
-listing upstream target way k letters row output fences =
-    namesLine upstream target way ++ (numberLine (bytes "states ") k ++ (rowLines row letters k ++ (outLine output ++ numberLine (bytes "fences ") fences)))
+-- what a listing tells: the names of two models and the way, so many states of so many letters with their answers, the run's output and its
+-- fences
+pub record Listing : Type 0 where
+  pub upstream : List ℕ
+  pub target : List ℕ
+  pub way : Way
+  pub states : ℕ
+  pub letters : ℕ
+  pub row : ℕ → ℕ → Answer ℕ ℕ
+  pub output : List ℕ
+  pub fences : ℕ
+
+abbrev pub listing : Listing → List ℕ
+listing l =
+    namesLine (l .upstream) (l .target) (l .way) ++ (numberLine (bytes "states ") (l .states)
+    ++ (rowLines (l .row) (l .letters) (l .states) ++ (outLine (l .output) ++ numberLine (bytes "fences ") (l .fences))))
+
+-- the line of a refusal
+abbrev pub refusedAt : ℕ → ℕ → List ℕ
+refusedAt number place = bytes "refused " ++ (decimal number ++ numberLine (bytes " at ") place)
 
 abbrev pub refusalLine : Refusal → List ℕ
-refusalLine why = bytes "refused " ++ (decimal (numberOf why) ++ numberLine (bytes " at ") (placeOf why))
+refusalLine why = refusedAt (numberOf why) (placeOf why)

@@ -9,33 +9,35 @@ use lib.Dec.{eqb, leb}
 use lib.ListN.{length, getD, take, drop}
 use Rattle.ground.specs.Bytes.{bytes, sameBytes}
 use Rattle.rule.specs.declared.way.Way.{Way}
-use Rattle.runs.specs.declared.WayRead.{WayRead}
+use Rattle.shims.specs.declared.WayRead.{WayRead}
 
 -- the lines of a text, each with its line feed; the last may lack it
-abbrev pub onto : ℕ → List (List ℕ) → List (List ℕ)
-onto b [] = (b ∷ []) ∷ []
-onto b (x ∷ xs) = (b ∷ x) ∷ xs
+abbrev pub prefixed : ℕ → List (List ℕ) → List (List ℕ)
+prefixed b [] = (b ∷ []) ∷ []
+prefixed b (x ∷ xs) = (b ∷ x) ∷ xs
 
 unfoldable pub lines : List ℕ → List (List ℕ)
 lines [] = []
-lines (b ∷ l) = cond (eqb b 10) ((b ∷ []) ∷ lines l) (onto b (lines l))
+lines (b ∷ l) = cond (eqb b 10) ((b ∷ []) ∷ lines l) (prefixed b (lines l))
 
 -- a text, and the lines after it
 pub record Cut : Type 0 where
   pub text : List ℕ
   pub rest : List (List ℕ)
 
-abbrev pub behind : List ℕ → Option Cut → Option Cut
-behind x none = none
-behind x (some c) = some (record { text = x ++ c .text; rest = c .rest })
+abbrev pub joined : List ℕ → Option Cut → Option Cut
+joined x none = none
+joined x (some c) = some (record { text = x ++ c .text; rest = c .rest })
 
 -- the text through the first line that is exactly `end`
 unfoldable pub through : List (List ℕ) → Option Cut
 through [] = none
-through (x ∷ xs) = cond (sameBytes x (bytes "end\n")) (some (record { text = x; rest = xs })) (behind x (through xs))
+through (x ∷ xs) = cond (sameBytes x (bytes "end\n")) (some (record { text = x; rest = xs })) (joined x (through xs))
 
 abbrev pub wayIn : List ℕ → WayRead
-wayIn x = cond (sameBytes x (bytes "way full\n")) (WayRead.Is Way.Full) (cond (sameBytes x (bytes "way sparing\n")) (WayRead.Is Way.Sparing) WayRead.Nothing)
+wayIn x =
+    cond (sameBytes x (bytes "way full\n")) (WayRead.Is Way.Full)
+    (cond (sameBytes x (bytes "way sparing\n")) (WayRead.Is Way.Sparing) WayRead.Nothing)
 
 -- `run `, a stream and a line feed
 abbrev pub isRun : List ℕ → Bool

@@ -1,25 +1,20 @@
 // The shape of an input: two model texts, the way's line, the run's line.
 ghost use mathlib.Core.Path.{_≡_};
 ghost use Rattle.listing.specs.Shape.{wayIn, isRun};
-ghost use Rattle.listing.specs.Finding.{LineEnd, Looks, TextEnd, OnlyRun, EndingAt};
+ghost use Rattle.listing.specs.inner.Finding.{LineEnd, Looks, TextEnd, OnlyRun, EndingAt};
+use ground::Found;
 use rule::way::Way;
-use runs::WayRead;
-
-// Where something ends, if it is there.
-pub enum Found {
-    At(usize),
-    Nothing,
-}
+use shims::WayRead;
 
 // What the first line says of a text: it ends there, it goes on after it, or it never ends.
-pub enum Looked {
+enum Looked {
     End(usize),
     More(usize),
     Nothing,
 }
 
 // What stands after the two texts: a way and a stream, which ends before the last byte.
-pub enum Tail {
+pub(crate) enum Tail {
     Of { way: Way, stream: usize },
     Other,
 }
@@ -32,7 +27,7 @@ fn line_end(text: &[u8]) -> Found
     if n < text.len() {
         Found::At(n + 1)
     } else {
-        Found::Nothing
+        Found::Nowhere
     }
 }
 
@@ -42,7 +37,7 @@ fn look(text: &[u8]) -> Looked
 {
     let line = line_end(text);
     match line {
-        Found::Nothing => Looked::Nothing,
+        Found::Nowhere => Looked::Nothing,
         Found::At(n) => {
             if ground::same(&text[..n], b"end\n") {
                 Looked::End(n)
@@ -61,12 +56,12 @@ pub(crate) fn text_end(text: &[u8]) -> Found
     while at < text.len() {
         let looked = look(&text[at..]);
         match looked {
-            Looked::Nothing => return Found::Nothing,
+            Looked::Nothing => return Found::Nowhere,
             Looked::End(n) => return Found::At(at + n),
             Looked::More(n) => at += n,
         }
     }
-    Found::Nothing
+    Found::Nowhere
 }
 
 fn way_in(line: &[u8]) -> WayRead
@@ -99,7 +94,7 @@ fn only_run(rest: &[u8]) -> bool
 {
     let line = line_end(rest);
     match line {
-        Found::Nothing => false,
+        Found::Nowhere => false,
         Found::At(n) => {
             if n == rest.len() {
                 return is_run(rest);
@@ -115,7 +110,7 @@ pub(crate) fn tail_of(text: &[u8]) -> Tail
 {
     let line = line_end(text);
     match line {
-        Found::Nothing => Tail::Other,
+        Found::Nowhere => Tail::Other,
         Found::At(n) => {
             let read = way_in(&text[..n]);
             match read {

@@ -4,7 +4,7 @@ use borrow.Author.Needs.{needs}
 use denote.Ref.{now}
 use lib.Seq.{length-take-le}
 use Rattle.listing.specs.Shape.{withUpstream}
-use Rattle.listing.specs.Finding.{TextEnd}
+use Rattle.listing.specs.inner.Finding.{TextEnd}
 use Rattle.listing.proofs.Stages.{shape-as, shape-none, upstream-found, input-over, input-within}
 use Rattle.listing.proofs.list.Statement.{statement}
 use Rattle.listing.proofs.list.Tie as tie

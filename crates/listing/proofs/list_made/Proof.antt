@@ -1,29 +1,31 @@
--- `list_made` meets its contract. Assumes nothing.
+-- `list_made` meets its contract: the outcome decides what is given. Assumes nothing.
 use Prim.Native.Nat.{ℕ}
-use mathlib.Core.Path.{_≡_, refl, sym, ap, subst}
+use mathlib.Core.Path.{_≡_, sym, ap, subst}
 use mathlib.Core.List.{List}
 use borrow.Author.Needs.{needs}
 use denote.Ref.{now}
 use Rattle.answers.specs.declared.Answer.{Answer}
-use Rattle.answers.proofs.Given.{Answered, answered-same}
-use Rattle.rule.specs.declared.way.Way.{Way}
-use Rattle.models.specs.declared.model.Name.{Name}
+use Rattle.answers.specs.Given.{Delivers}
+use Rattle.answers.proofs.Given.{delivers-refusal, delivers-as}
+use Rattle.shims.specs.declared.Models.{Models}
 use Rattle.machine.specs.declared.machine.Outcome.{Outcome}
-use Rattle.listing.specs.Making.{madeGiven, MadeListable}
+use Rattle.listing.specs.inner.Making.{madeGiven, MadeListable}
 use Rattle.listing.proofs.list_made.Statement.{statement}
 use Rattle.listing.proofs.list_made.Tie as tie
 
--- what is answered for an outcome is answered for one that is equal to it
-answers-so : (upstream target : Name) (way : Way) (rows output : List ℕ) (fences : ℕ) (out : List ℕ) {x y : Outcome} {r : Answer} {after : List ℕ} → x ≡ y
-    → Answered (madeGiven y upstream target way rows output fences) out r after → Answered (madeGiven x upstream target way rows output fences) out r after
-answers-so upstream target way rows output fences out e h =
-    answered-same _ _ out _ _ (ap (λ (z : Outcome). madeGiven z upstream target way rows output fences) (sym e)) h
+-- what is delivered for an outcome is delivered for one that is equal to it
+as-made : (m : Models) (rows output : List ℕ) (fences : ℕ) {x y : Outcome} {out after : List ℕ} {r : Answer} → x ≡ y
+    → Delivers (madeGiven y m rows output fences) out r after → Delivers (madeGiven x m rows output fences) out r after
+as-made m rows output fences e d = delivers-as (ap (λ (z : Outcome). madeGiven z m rows output fences) (sym e)) d
 
 enum-known-made : tie.Need-enum-known-made
 enum-known-made c = search needs
 
 write-listing-requires : tie.Need-write-listing-requires
-write-listing-requires c κs = subst (λ (x : Outcome). MadeListable x (now (c .before .before .before .before .before .before .before .args .rows)) (now (c .before .before .before .before .before .before .before .args .output)) (c .before .before .before .before .before .before .before .args .fences)) (c .before .before .made .given .1) (c .before .before .before .before .before .before .before .pre)
+write-listing-requires c κs =
+    let o = c .before .before .before .before .before .before .before in
+    let a = o .args in
+    subst (λ (x : Outcome). MadeListable x (now (a .rows)) (now (a .output)) (a .fences)) (c .before .before .made .given .1) (o .pre)
 
 enum-told : tie.Need-enum-told
 enum-told c = search needs
@@ -38,16 +40,26 @@ same-length : tie.Need-same-length
 same-length c = search needs
 
 returns : tie.Need-returns
-returns c = let a = c .before .before .before .before .before .before .before .before .before .before .args in answers-so (a .upstream) (a .target) (a .way) (now (a .rows)) (now (a .output)) (a .fences) (now (a .out)) (c .before .before .before .before .before .made .given .1) (c .before .before .write-listing .ensures)
+returns c =
+    let w = c .before .before in
+    let t = w .before .before .before in
+    let a = t .before .before .before .before .before .args in
+    as-made (a .models) (now (a .rows)) (now (a .output)) (a .fences) (t .made .given .1) (w .write-listing .ensures)
 
 returns-2 : tie.Need-returns-2
-returns-2 c = let a = c .before .before .before .before .before .args in answers-so (a .upstream) (a .target) (a .way) (now (a .rows)) (now (a .output)) (a .fences) (now (a .out)) (c .enum-told .given .1) (refl, refl)
+returns-2 c =
+    let a = c .before .before .before .before .before .args in
+    as-made (a .models) (now (a .rows)) (now (a .output)) (a .fences) (c .enum-told .given .1) (delivers-refusal (now (a .out)))
 
 returns-3 : tie.Need-returns-3
-returns-3 c = let a = c .before .before .before .before .before .args in answers-so (a .upstream) (a .target) (a .way) (now (a .rows)) (now (a .output)) (a .fences) (now (a .out)) (c .enum-told2 .given .1) (refl, refl)
+returns-3 c =
+    let a = c .before .before .before .before .before .args in
+    as-made (a .models) (now (a .rows)) (now (a .output)) (a .fences) (c .enum-told2 .given .1) (delivers-refusal (now (a .out)))
 
 returns-4 : tie.Need-returns-4
-returns-4 c = let a = c .before .before .before .before .before .args in answers-so (a .upstream) (a .target) (a .way) (now (a .rows)) (now (a .output)) (a .fences) (now (a .out)) (c .enum-told3 .given .1) (refl, refl)
+returns-4 c =
+    let a = c .before .before .before .before .before .args in
+    as-made (a .models) (now (a .rows)) (now (a .output)) (a .fences) (c .enum-told3 .given .1) (delivers-refusal (now (a .out)))
 
 pub list-made-spec : {M : Type 1} → statement M
 list-made-spec =

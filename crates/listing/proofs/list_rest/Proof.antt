@@ -4,7 +4,7 @@ use borrow.Author.Needs.{needs}
 use denote.Ref.{now}
 use lib.Seq.{length-take-le}
 use Rattle.listing.specs.Shape.{withTarget}
-use Rattle.listing.specs.Finding.{TextEnd}
+use Rattle.listing.specs.inner.Finding.{TextEnd}
 use Rattle.listing.proofs.Stages.{shape-as, shape-none, target-found}
 use Rattle.listing.proofs.list_rest.Statement.{statement}
 use Rattle.listing.proofs.list_rest.Tie as tie

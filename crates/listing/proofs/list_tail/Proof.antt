@@ -4,7 +4,7 @@ use native.Mathlib.Omega.{arith}
 use borrow.Author.Needs.{needs}
 use denote.Ref.{now}
 use Rattle.listing.specs.Shape.{withEnding}
-use Rattle.listing.specs.Finding.{EndingAt}
+use Rattle.listing.specs.inner.Finding.{EndingAt}
 use Rattle.listing.proofs.Stages.{shape-some, shape-none}
 use Rattle.listing.proofs.list_tail.Statement.{statement}
 use Rattle.listing.proofs.list_tail.Tie as tie

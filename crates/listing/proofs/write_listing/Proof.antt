@@ -1,15 +1,37 @@
--- `write_listing` meets its contract. Assumes nothing.
+-- `write_listing` meets its contract: no listing is too long for the buffer of its own. Assumes nothing.
 use Prim.Native.Nat.{ℕ}
-use mathlib.Core.Path.{sym, ap, _∙_}
+use mathlib.Core.Path.{ap}
 use mathlib.Core.List.{List}
 use native.Mathlib.Omega.{arith}
-use borrow.Author.Needs.{needs}
+use borrow.Author.Needs.{needs, length-unmapped}
 use denote.Ref.{now}
-use lib.ListN.{length}
-use lib.Seq.{length-take-le}
-use Rattle.answers.specs.Buffer.{bufferWith, answerWith}
+use Rattle.answers.specs.Given.{gives}
+use Rattle.answers.proofs.Given.{delivers-as}
+use Rattle.printing.specs.Putting.{Fronts}
+use Rattle.printing.proofs.Putting.{put-fronts}
+use Rattle.listing.specs.Printed.{listing}
+use Rattle.listing.specs.inner.Making.{madeListing}
+use Rattle.listing.proofs.Longest.{listing-length}
+use Rattle.listing.proofs.Made.{listable-limited}
 use Rattle.listing.proofs.write_listing.Statement.{statement}
 use Rattle.listing.proofs.write_listing.Tie as tie
+
+-- the listing stands in front
+fronts : (c : tie.After-put-listing)
+    → let a = c .before .before .before .before .before .args in
+    Fronts (c .put-listing .last .0) (c .put-listing .result)
+    (listing (madeListing (a .models) (a .machine) (now (a .rows)) (now (a .output)) (a .fences)))
+fronts c =
+    let o = c .before .before .before .before .before in
+    let a = o .args in
+    let upstream = o .good .0 .1 .1 .1 .0 in
+    let target = o .good .0 .1 .1 .1 .1 .0 in
+    let first = upstream .1 .1 .1 .1 .1 .0 in
+    let second = target .1 .1 .1 .1 .1 .0 in
+    let limited = listable-limited (a .models) (a .machine) (now (a .rows)) (now (a .output)) (a .fences)
+    (length-unmapped ℕ (a .models .upstream .name .bytes) 16 (first .1 .1 .0 .1 .0 .1))
+    (length-unmapped ℕ (a .models .target .name .bytes) 16 (second .1 .1 .0 .1 .0 .1)) (o .pre) in
+    put-fronts (c .put-listing .ensures) (omega (arith, listing-length _ limited))
 
 slice-aggregate-put-listing : tie.Need-slice-aggregate-put-listing
 slice-aggregate-put-listing c = search needs
@@ -18,10 +40,10 @@ put-listing-requires : tie.Need-put-listing-requires
 put-listing-requires c κs = search needs
 
 array-share-prefix-text : tie.Need-array-share-prefix-text
-array-share-prefix-text c = search needs
+array-share-prefix-text c = fronts (c .before) .inside
 
 slice-aggregate-write-out : tie.Need-slice-aggregate-write-out
-slice-aggregate-write-out c = sym (length-take-le _ (c .before .before .put-listing .last .0) (omega (arith, c .before .before .put-listing .ensures .1, c .before .before .put-listing .kept .0)))
+slice-aggregate-write-out c = fronts (c .before .before) .count
 
 write-out-requires : tie.Need-write-out-requires
 write-out-requires c κs = search needs
@@ -30,10 +52,10 @@ same-length : tie.Need-same-length
 same-length c = search needs
 
 returns : tie.Need-returns
-returns c = let a = c .before .before .before .before .before .before .before .before .before .before .before .args in
-    let w = c .before .before .write-out .ensures in
-    let e = c .before .before .before .before .before .before .put-listing .ensures .0 .bytes in
-    (w .0 ∙ ap (λ (t : List ℕ). answerWith t (a .fences) 0 (length (now (a .out)))) e, w .1 ∙ ap (λ (t : List ℕ). bufferWith t (now (a .out))) e)
+returns c =
+    let p = c .before .before .before .before .before .before in
+    let a = p .before .before .before .before .before .args in
+    delivers-as (ap (λ (t : List ℕ). gives t (a .fences) 0) (fronts p .bytes)) (c .before .before .write-out .ensures)
 
 pub write-listing-spec : {M : Type 1} → statement M
 write-listing-spec =

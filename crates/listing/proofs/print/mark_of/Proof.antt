@@ -1,4 +1,4 @@
--- `mark_of` meets its contract. Assumes nothing.
+-- `mark_of` meets its contract: each `return` by the tests that led there. Assumes nothing.
 use mathlib.Core.Path.{sym, ap, _∙_}
 use borrow.Author.Needs.{needs}
 use Rattle.listing.specs.Printed.{fenceMark}

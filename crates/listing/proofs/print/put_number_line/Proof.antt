@@ -1,6 +1,6 @@
--- `put_number_line` meets its contract. Assumes nothing.
+-- `put_number_line` meets its contract: its parts one behind another. Assumes nothing.
 use borrow.Author.Needs.{needs}
-use Rattle.writing.proofs.Putting.{put-then}
+use Rattle.printing.proofs.Putting.{prints-put, put-then}
 use Rattle.listing.proofs.print.put_number_line.Statement.{statement}
 use Rattle.listing.proofs.print.put_number_line.Tie as tie
 
@@ -20,7 +20,11 @@ same-length : tie.Need-same-length
 same-length c = search needs
 
 returns : tie.Need-returns
-returns c = put-then (c .before .before .before .before .before .before .before .before .before .before .before .put .ensures) (put-then (c .before .before .before .before .before .before .before .put-decimal .ensures) (c .before .before .put2 .ensures))
+returns c =
+    let end = c .before .before in
+    let digits = end .before .before .before .before .before in
+    let word = digits .before .before .before .before in
+    put-then (prints-put (word .put .ensures)) (put-then (prints-put (digits .put-decimal .ensures)) (prints-put (end .put2 .ensures)))
 
 pub put-number-line-spec : {M : Type 1} → statement M
 put-number-line-spec =

@@ -1,68 +1,66 @@
 -- `put_state` meets its contract: after so many letters their lines stand there. Assumes nothing.
-use Prim.Native.Nat.{_+_, _-_, _*_, _≤_}
-use mathlib.Core.Path.{_≡_, refl, ap, _∙_}
+use Prim.Native.Nat.{_-_, _≤_}
+use mathlib.Core.Path.{_≡_, ap}
 use native.Mathlib.Omega.{arith}
+use borrow.Author.Needs.{needs}
 use denote.Ref.{now}
-use lib.ListN.{length}
-use Rattle.writing.specs.Writing.{Put}
-use Rattle.writing.proofs.Putting.{put-is}
-use Rattle.machine.specs.Rows.{rowOf}
+use Rattle.printing.specs.Putting.{Put}
+use Rattle.printing.proofs.Putting.{put-is}
+use Rattle.machine.specs.Rows.{answerAt}
 use Rattle.listing.specs.Printed.{stateLines}
 use Rattle.listing.proofs.Printing.{no-steps, one-step-more}
 use Rattle.listing.proofs.print.put_state.Statement.{statement}
 use Rattle.listing.proofs.print.put_state.Tie as tie
 
 abbrev Inv-loop : tie.InvT-loop
-Inv-loop buffer₀ at rows state letters here₀ letter₀ buffer here letter = (letter ≤ letters) × (here ≤ at + 12 * letter) × (length buffer ≡ length buffer₀) × Put buffer₀ buffer at here (stateLines state (rowOf rows state) letter)
+Inv-loop buffer₀ at rows state letters here₀ letter₀ buffer here letter =
+    (letter ≤ letters) × Put buffer₀ buffer at here (stateLines state (answerAt rows state) letter)
 
 abbrev μ-loop : tie.MeasureT-loop
 μ-loop buffer₀ at rows state letters here₀ letter₀ buffer here letter = letters - letter
 
 loop-holds : tie.Need-loop-holds Inv-loop μ-loop
-loop-holds c = (omega arith, omega arith, refl, no-steps (c .before .before .args .state) (rowOf (now (c .before .before .args .rows)) (c .before .before .args .state)))
+loop-holds c =
+    let a = c .before .before .args in
+    (search needs, no-steps (a .state) (answerAt (now (a .rows)) (a .state)))
 
 mul-put-step : tie.Need-mul-put-step Inv-loop μ-loop
-mul-put-step c = omega (arith, c .before .before .before .before .before .pre .1 .0)
+mul-put-step c = search needs
 
 add-put-step : tie.Need-add-put-step Inv-loop μ-loop
-add-put-step c = omega (arith, c .before .before .before .before .before .pre .1 .0, c .before .before .before .before .before .pre .1 .1, c .before .loop-test .taken)
+add-put-step c = search needs
 
 mul-put-step-2 : tie.Need-mul-put-step-2 Inv-loop μ-loop
-mul-put-step-2 c = omega (arith, c .before .before .before .before .before .pre .1 .0, c .before .before .before .before .before .pre .1 .1, c .before .loop-test .taken)
+mul-put-step-2 c = search needs
 
 shared-slice-read-put-step : tie.Need-shared-slice-read-put-step Inv-loop μ-loop
-shared-slice-read-put-step c = omega (arith, c .before .before .before .before .before .before .pre .1 .1, c .before .before .before .before .before .before .pre .1 .2, c .before .before .loop-test .taken)
+shared-slice-read-put-step c = search needs
 
 put-step-requires : tie.Need-put-step-requires Inv-loop μ-loop
-put-step-requires c κs = let l = c .before .before .before .loop in
-    (omega (arith, c .before .before .before .before .before .before .pre .0, c .before .before .before .before .before .before .pre .1 .1, l .inv .1, l .inv .2, c .before .before .loop-test .taken), omega (arith, c .before .before .before .before .before .before .pre .1 .0))
+put-step-requires c κs = search needs
 
 add-letter : tie.Need-add-letter Inv-loop μ-loop
-add-letter c = omega (arith, c .before .before .before .before .before .before .before .before .before .pre .1 .1, c .before .before .before .before .before .loop-test .taken)
+add-letter c = search needs
 
 loop-less : tie.Need-loop-less Inv-loop μ-loop
-loop-less c = omega (arith, c .before .before .before .before .before .loop-test .taken)
+loop-less c = search needs
 
 loop-again : tie.Need-loop-again Inv-loop μ-loop
-loop-again c = let o = c .before .before .before .before .before .before .before .before .before in
-    let l = c .before .before .before .before .before .before .loop in
-    let p = c .before .before .put-step in (
-      omega (arith, c .before .before .before .before .before .loop-test .taken),
-      omega (arith, p .ensures .1, l .inv .1),
-      p .kept .0 ∙ l .inv .2,
-      one-step-more (o .args .state) (rowOf (now (o .args .rows)) (o .args .state)) (l .letter) (l .inv .3) (p .ensures .0),
-    )
+loop-again c =
+    let p = c .before .before in
+    let l = p .before .before .before .before .loop in
+    let a = p .before .before .before .before .before .before .before .args in
+    (search needs, one-step-more (a .state) (answerAt (now (a .rows)) (a .state)) (l .letter) (l .inv .1) (p .put-step .ensures))
 
 same-length : tie.Need-same-length Inv-loop μ-loop
-same-length c = c .before .loop .inv .2
+same-length c = c .before .loop .inv .1 .size
 
 returns : tie.Need-returns Inv-loop μ-loop
-returns c = let o = c .before .before .before .before in
+returns c =
+    let a = c .before .before .before .before .args in
     let l = c .before .loop in
-    let e : l .letter ≡ o .args .letters = omega (arith, l .inv .0, c .loop-test .left) in (
-      put-is (ap (stateLines (o .args .state) (rowOf (now (o .args .rows)) (o .args .state))) e) (l .inv .3),
-      omega (arith, l .inv .0, l .inv .1, o .pre .1 .1),
-    )
+    let all : l .letter ≡ a .letters = omega arith in
+    put-is (ap (stateLines (a .state) (answerAt (now (a .rows)) (a .state))) all) (l .inv .1)
 
 pub put-state-spec : {M : Type 1} → statement M
 put-state-spec =

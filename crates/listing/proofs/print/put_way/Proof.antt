@@ -1,11 +1,10 @@
--- `put_way` meets its contract. Assumes nothing.
+-- `put_way` meets its contract: each way has its word. Assumes nothing.
 use mathlib.Core.Path.{sym, ap}
 use mathlib.Core.List.{_++_}
-use native.Mathlib.Omega.{arith}
 use borrow.Author.Needs.{needs}
 use Rattle.ground.specs.Bytes.{bytes}
 use Rattle.rule.specs.declared.way.Way.{Way}
-use Rattle.writing.proofs.Putting.{put-is}
+use Rattle.printing.proofs.Putting.{put-is, prints-put}
 use Rattle.listing.specs.Printed.{wayWord}
 use Rattle.listing.proofs.print.put_way.Statement.{statement}
 use Rattle.listing.proofs.print.put_way.Tie as tie
@@ -32,13 +31,19 @@ same-length : tie.Need-same-length
 same-length c = search needs
 
 returns : tie.Need-returns
-returns c = (put-is (ap (λ (w : Way). wayWord w ++ bytes "\n") (sym (c .before .before .before .before .before .enum-told .given .1))) (c .before .before .put .ensures), omega (arith, c .before .before .put .ensures .long))
+returns c =
+    let put = c .before .before in
+    let told = put .before .before .before in
+    put-is (ap (λ (w : Way). wayWord w ++ bytes "\n") (sym (told .enum-told .given .1))) (prints-put (put .put .ensures))
 
 same-length-2 : tie.Need-same-length-2
 same-length-2 c = search needs
 
 returns-2 : tie.Need-returns-2
-returns-2 c = (put-is (ap (λ (w : Way). wayWord w ++ bytes "\n") (sym (c .before .before .before .before .before .enum-told2 .given .1))) (c .before .before .put2 .ensures), omega (arith, c .before .before .put2 .ensures .long))
+returns-2 c =
+    let put = c .before .before in
+    let told = put .before .before .before in
+    put-is (ap (λ (w : Way). wayWord w ++ bytes "\n") (sym (told .enum-told2 .given .1))) (prints-put (put .put2 .ensures))
 
 pub put-way-spec : {M : Type 1} → statement M
 put-way-spec =

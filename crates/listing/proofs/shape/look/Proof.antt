@@ -3,7 +3,7 @@ use mathlib.Core.Path.{sym, subst, _∙_}
 use borrow.Author.Needs.{needs}
 use denote.Ref.{now}
 use lib.Seq.{length-take-le}
-use Rattle.listing.specs.Finding.{LineEnd}
+use Rattle.listing.specs.inner.Finding.{LineEnd}
 use Rattle.listing.proofs.Lines.{line-last, line-more}
 use Rattle.listing.proofs.shape.look.Statement.{statement}
 use Rattle.listing.proofs.shape.look.Tie as tie

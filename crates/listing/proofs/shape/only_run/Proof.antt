@@ -2,7 +2,7 @@
 use mathlib.Core.Path.{subst}
 use borrow.Author.Needs.{needs}
 use denote.Ref.{now}
-use Rattle.listing.specs.Finding.{LineEnd}
+use Rattle.listing.specs.inner.Finding.{LineEnd}
 use Rattle.listing.proofs.Endings.{run-alone, run-and-more}
 use Rattle.listing.proofs.shape.only_run.Statement.{statement}
 use Rattle.listing.proofs.shape.only_run.Tie as tie

@@ -4,7 +4,7 @@ use native.Mathlib.Omega.{arith}
 use borrow.Author.Needs.{needs}
 use denote.Ref.{now}
 use lib.Seq.{length-take-le}
-use Rattle.listing.specs.Finding.{LineEnd, OnlyRun}
+use Rattle.listing.specs.inner.Finding.{LineEnd, OnlyRun}
 use Rattle.listing.proofs.Endings.{way-not, room, ending-is, ending-not}
 use Rattle.listing.proofs.shape.tail_of.Statement.{statement}
 use Rattle.listing.proofs.shape.tail_of.Tie as tie

@@ -9,8 +9,8 @@ use denote.Ref.{now}
 use lib.ListN.{length, take, drop, length-drop, drop-of-length-le}
 use Rattle.listing.specs.declared.shape.Looked.{Looked}
 use Rattle.listing.specs.Shape.{lines, through}
-use Rattle.listing.specs.Finding.{Looks}
-use Rattle.listing.proofs.Lines.{Found-so-far, none-so-far, more-so-far, text-found, no-text-found, part-rest}
+use Rattle.listing.specs.inner.Finding.{Looks}
+use Rattle.listing.proofs.Lines.{So-far, none-so-far, more-so-far, text-found, no-text-found, part-rest}
 use Rattle.listing.proofs.shape.text_end.Statement.{statement}
 use Rattle.listing.proofs.shape.text_end.Tie as tie
 
@@ -23,7 +23,7 @@ unfolding lines through
 none-left t at l = ap (λ (x : List ℕ). through (lines x)) (drop-of-length-le t l)
 
 abbrev Inv-loop : tie.InvT-loop
-Inv-loop text at₀ at = (at ≤ length text) × Found-so-far text at
+Inv-loop text at₀ at = (at ≤ length text) × So-far text at
 
 abbrev μ-loop : tie.MeasureT-loop
 μ-loop text at₀ at = length text - at

@@ -7,7 +7,7 @@ use borrow.Author.Needs.{needs}
 use denote.Ref.{now}
 use Rattle.ground.specs.Bytes.{bytes, sameBytes}
 use Rattle.rule.specs.declared.way.Way.{Way}
-use Rattle.runs.specs.declared.WayRead.{WayRead}
+use Rattle.shims.specs.declared.WayRead.{WayRead}
 use Rattle.listing.specs.Shape.{wayIn}
 use Rattle.listing.proofs.shape.way_in.Statement.{statement}
 use Rattle.listing.proofs.shape.way_in.Tie as tie

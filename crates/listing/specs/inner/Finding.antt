@@ -5,11 +5,11 @@ use mathlib.Core.List.{List, [], _∷_}
 use mathlib.Core.Bool.{Bool, true, false}
 use mathlib.Core.Option.{none, some as one}
 use lib.ListN.{length, take, drop}
+use Rattle.ground.specs.declared.Found.{Found}
 use Rattle.rule.specs.declared.way.Way.{Way}
-use Rattle.listing.specs.declared.shape.Found.{Found}
 use Rattle.listing.specs.declared.shape.Looked.{Looked}
 use Rattle.listing.specs.declared.shape.Tail.{Tail}
-use Rattle.listing.specs.Shape.{lines, behind, through, isRun, endingOf}
+use Rattle.listing.specs.Shape.{lines, joined, through, isRun, endingOf}
 
 -- the first line has n bytes, with its line feed
 pub record LineOf (t : List ℕ) (n : ℕ) : Type 0 where
@@ -25,7 +25,7 @@ pub record NoLine (t : List ℕ) : Type 0 where
 
 abbrev pub LineEnd : List ℕ → Found → Type 0
 LineEnd t (Found.At n) = LineOf t n
-LineEnd t Found.Nothing = NoLine t
+LineEnd t Found.Nowhere = NoLine t
 
 -- the text ends with n bytes
 pub record TextOf (t : List ℕ) (n : ℕ) : Type 0 where
@@ -36,7 +36,7 @@ pub record TextOf (t : List ℕ) (n : ℕ) : Type 0 where
 pub record GoesOn (t : List ℕ) (n : ℕ) : Type 0 where
   pub some : 0 < n
   pub inside : n ≤ length t
-  pub more : through (lines t) ≡ behind (take n t) (through (lines (drop n t)))
+  pub more : through (lines t) ≡ joined (take n t) (through (lines (drop n t)))
 
 abbrev pub Looks : List ℕ → Looked → Type 0
 Looks t (Looked.End n) = TextOf t n
@@ -45,7 +45,7 @@ Looks t Looked.Nothing = through (lines t) ≡ none
 
 abbrev pub TextEnd : List ℕ → Found → Type 0
 TextEnd t (Found.At n) = TextOf t n
-TextEnd t Found.Nothing = through (lines t) ≡ none
+TextEnd t Found.Nowhere = through (lines t) ≡ none
 
 -- the way, and where the stream begins; it ends before the last byte
 pub record EndingOf (t : List ℕ) (way : Way) (at : ℕ) : Type 0 where

@@ -1,0 +1,4 @@
+-- What serves the crate's private functions and their proofs alone. A reader need not believe it.
+pub mod Finding
+pub mod Limits
+pub mod Making
