@@ -14,7 +14,9 @@ use Rattle.listing.proofs.shape.way_in.Tie as tie
 
 module _ (x : List ℕ) where
   first : sameBytes x (bytes "way full\n") ≡ true → WayRead.Is Way.Full ≡ wayIn x
-  first e = sym (ap (λ (q : Bool). cond q (WayRead.Is Way.Full) (cond (sameBytes x (bytes "way sparing\n")) (WayRead.Is Way.Sparing) WayRead.Nothing)) e)
+  first e =
+      let rest = cond (sameBytes x (bytes "way sparing\n")) (WayRead.Is Way.Sparing) WayRead.Nothing in
+      sym (ap (λ (q : Bool). cond q (WayRead.Is Way.Full) rest) e)
 
   module _ (e : sameBytes x (bytes "way full\n") ≡ false) where
     second : sameBytes x (bytes "way sparing\n") ≡ true → WayRead.Is Way.Sparing ≡ wayIn x
