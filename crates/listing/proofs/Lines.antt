@@ -75,7 +75,8 @@ module _ (l : List ℕ) (h : length l ≤ indexOf 10 l) where
     where
       by : (q : Bool) → sameBytes l (bytes "end\n") ≡ q → q ≡ false
       by true e =
-          let z : length (bytes "end\n") ≤ indexOf 10 (bytes "end\n") = subst (λ (x : List ℕ). length x ≤ indexOf 10 x) (same-is l (bytes "end\n") e) h in
+          let z : length (bytes "end\n") ≤ indexOf 10 (bytes "end\n") =
+          subst (λ (x : List ℕ). length x ≤ indexOf 10 x) (same-is l (bytes "end\n") e) h in
           absurd (omega arith)
       by false e = refl
 

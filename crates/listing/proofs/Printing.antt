@@ -42,7 +42,8 @@ pub no-steps : {b : List ℕ} {at : ℕ} (s : ℕ) (row : ℕ → Answer ℕ ℕ
 unfolding stateLines
 no-steps s row = put-none
 
-pub one-step-more : {a b c : List ℕ} {at r t : ℕ} (s : ℕ) (row : ℕ → Answer ℕ ℕ) (n : ℕ) → Put a b at r (stateLines s row n) → Put b c r t (stepLine s n (row n))
+pub one-step-more : {a b c : List ℕ} {at r t : ℕ} (s : ℕ) (row : ℕ → Answer ℕ ℕ) (n : ℕ) → Put a b at r (stateLines s row n)
+    → Put b c r t (stepLine s n (row n))
     → Put a c at t (stateLines s row (n + 1))
 unfolding stateLines
 one-step-more s row n p q = put-is (sym (ap (stateLines s row) (add-one n))) (put-then p q)

@@ -36,5 +36,6 @@ upstream-found t {n} f =
 pub input-over : (input out : List ℕ) → 32768 < length input → Answers (Listed input) out (Answer.Refused Refusal.OverLimit) out
 input-over input out l = answers-refusal (Listed input) out (over l)
 
-pub input-within : {input out after : List ℕ} {r : Answer} → length input ≤ 32768 → Answers (ShapeListed (shape input)) out r after → Answers (Listed input) out r after
+pub input-within : {input out after : List ℕ} {r : Answer} → length input ≤ 32768 → Answers (ShapeListed (shape input)) out r after
+    → Answers (Listed input) out r after
 input-within l a = answers-by (λ g h. within l h) a

@@ -6,7 +6,7 @@ ghost use Rattle.ground.specs.Bytes.{bytes};
 ghost use Rattle.printing.specs.Name.{unfilled};
 ghost use Rattle.printing.specs.Putting.{Put};
 ghost use Rattle.machine.specs.Rows.{decoded, answerAt};
-ghost use Rattle.listing.specs.Printed.{wayWord, namesLine, numberLine, fenceMark, nextState, stepLine, stateLines, rowLines, outLine, listing, refusedAt};
+ghost use Rattle.listing.specs.Printed.{wayWord, namesLine, numberLine, outLine, listing, refusedAt, fenceMark, nextState, stepLine, stateLines, rowLines};
 ghost use Rattle.listing.specs.inner.Limits.{RowsThere, Listable};
 ghost use Rattle.listing.specs.inner.Making.{madeListing};
 use answers::Refusal;

@@ -1,4 +1,4 @@
--- `list` meets its contract. Assumes nothing.
+-- `list` meets its contract: the upstream text is the first that is found. Assumes nothing.
 use mathlib.Core.Path.{sym, ap, subst}
 use borrow.Author.Needs.{needs}
 use denote.Ref.{now}
@@ -22,13 +22,25 @@ enum-known-found : tie.Need-enum-known-found
 enum-known-found c = search needs
 
 slice-aggregate-list-rest : tie.Need-slice-aggregate-list-rest
-slice-aggregate-list-rest c = let t = now (c .before .before .before .before .before .before .before .before .args .input) in sym (length-take-le _ t (subst (TextEnd t) (c .before .before .found .given .1) (c .before .before .before .before .text-end .ensures) .inside))
+slice-aggregate-list-rest c =
+    let m = c .before .before in
+    let f = m .before .before in
+    let t = now (f .before .before .before .before .args .input) in
+    sym (length-take-le _ t (subst (TextEnd t) (m .found .given .1) (f .text-end .ensures) .inside))
 
 sub-list-rest : tie.Need-sub-list-rest
-sub-list-rest c = subst (TextEnd (now (c .before .before .before .before .before .before .before .before .args .input))) (c .before .before .found .given .1) (c .before .before .before .before .text-end .ensures) .inside
+sub-list-rest c =
+    let m = c .before .before in
+    let f = m .before .before in
+    let t = now (f .before .before .before .before .args .input) in
+    subst (TextEnd t) (m .found .given .1) (f .text-end .ensures) .inside
 
 part-list-rest-start : tie.Need-part-list-rest-start
-part-list-rest-start c = subst (TextEnd (now (c .before .before .before .before .before .before .before .before .args .input))) (c .before .before .found .given .1) (c .before .before .before .before .text-end .ensures) .inside
+part-list-rest-start c =
+    let m = c .before .before in
+    let f = m .before .before in
+    let t = now (f .before .before .before .before .args .input) in
+    subst (TextEnd t) (m .found .given .1) (f .text-end .ensures) .inside
 
 part-list-rest-end : tie.Need-part-list-rest-end
 part-list-rest-end c = search needs
@@ -37,15 +49,23 @@ list-rest-requires : tie.Need-list-rest-requires
 list-rest-requires c κs = search needs
 
 returns-2 : tie.Need-returns-2
-returns-2 c = let a = c .before .before .before .before .before .before .args in
-    input-within (c .before .before .before .if1 .left) (shape-none (now (a .out)) (ap withUpstream (subst (TextEnd (now (a .input))) (c .enum-told .given .1) (c .before .before .text-end .ensures))))
+returns-2 c =
+    let f = c .before .before in
+    let a = f .before .before .before .before .args in
+    let no-text = subst (TextEnd (now (a .input))) (c .enum-told .given .1) (f .text-end .ensures) in
+    input-within (f .before .if1 .left) (shape-none (now (a .out)) (ap withUpstream no-text))
 
 same-length : tie.Need-same-length
 same-length c = search needs
 
 returns-3 : tie.Need-returns-3
-returns-3 c = let a = c .before .before .before .before .before .before .before .before .before .before .before .before .before .args in
-    input-within (c .before .before .before .before .before .before .before .before .before .before .if1 .left) (shape-as (upstream-found (now (a .input)) (subst (TextEnd (now (a .input))) (c .before .before .before .before .before .before .before .found .given .1) (c .before .before .before .before .before .before .before .before .before .text-end .ensures))) (c .before .before .list-rest .ensures))
+returns-3 c =
+    let l = c .before .before in
+    let m = l .before .before .before .before .before in
+    let f = m .before .before in
+    let a = f .before .before .before .before .args in
+    let found = subst (TextEnd (now (a .input))) (m .found .given .1) (f .text-end .ensures) in
+    input-within (f .before .if1 .left) (shape-as (upstream-found (now (a .input)) found) (l .list-rest .ensures))
 
 pub list-spec : {M : Type 1} → statement M
 list-spec =

@@ -51,7 +51,8 @@ returns c =
     let r = c .before .before .before .before in
     let a = r .before .before .before .before .args in
     answers-refusal (ModelsListed (a .models) (now (a .stream))) (now (a .out)) (halts
-    (run-refused (a .models) (now (a .stream)) (replicate 8192 0) (length-replicate {A = ℕ} 8192 0) (r .run-models .ensures) (c .before .answer .given .1)))
+    (run-refused (a .models) (now (a .stream)) (replicate 8192 0) (length-replicate {A = ℕ} 8192 0) (r .run-models .ensures)
+    (c .before .answer .given .1)))
 
 same-length : tie.Need-same-length
 same-length c = search needs

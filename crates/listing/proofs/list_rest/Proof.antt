@@ -1,4 +1,4 @@
--- `list_rest` meets its contract. Assumes nothing.
+-- `list_rest` meets its contract: the target text is the first that is found. Assumes nothing.
 use mathlib.Core.Path.{sym, ap, subst}
 use borrow.Author.Needs.{needs}
 use denote.Ref.{now}
@@ -19,13 +19,25 @@ enum-known-found : tie.Need-enum-known-found
 enum-known-found c = search needs
 
 slice-aggregate-list-tail : tie.Need-slice-aggregate-list-tail
-slice-aggregate-list-tail c = let t = now (c .before .before .before .before .before .before .before .before .args .rest) in sym (length-take-le _ t (subst (TextEnd t) (c .before .before .found .given .1) (c .before .before .before .before .text-end .ensures) .inside))
+slice-aggregate-list-tail c =
+    let m = c .before .before in
+    let f = m .before .before in
+    let t = now (f .before .before .before .before .args .rest) in
+    sym (length-take-le _ t (subst (TextEnd t) (m .found .given .1) (f .text-end .ensures) .inside))
 
 sub-list-tail : tie.Need-sub-list-tail
-sub-list-tail c = subst (TextEnd (now (c .before .before .before .before .before .before .before .before .args .rest))) (c .before .before .found .given .1) (c .before .before .before .before .text-end .ensures) .inside
+sub-list-tail c =
+    let m = c .before .before in
+    let f = m .before .before in
+    let t = now (f .before .before .before .before .args .rest) in
+    subst (TextEnd t) (m .found .given .1) (f .text-end .ensures) .inside
 
 part-list-tail-start : tie.Need-part-list-tail-start
-part-list-tail-start c = subst (TextEnd (now (c .before .before .before .before .before .before .before .before .args .rest))) (c .before .before .found .given .1) (c .before .before .before .before .text-end .ensures) .inside
+part-list-tail-start c =
+    let m = c .before .before in
+    let f = m .before .before in
+    let t = now (f .before .before .before .before .args .rest) in
+    subst (TextEnd t) (m .found .given .1) (f .text-end .ensures) .inside
 
 part-list-tail-end : tie.Need-part-list-tail-end
 part-list-tail-end c = search needs
@@ -34,15 +46,23 @@ list-tail-requires : tie.Need-list-tail-requires
 list-tail-requires c κs = search needs
 
 returns : tie.Need-returns
-returns c = let a = c .before .before .before .before .before .before .args in
-    shape-none (now (a .out)) (ap (withTarget (now (a .upstream))) (subst (TextEnd (now (a .rest))) (c .enum-told .given .1) (c .before .before .text-end .ensures)))
+returns c =
+    let f = c .before .before in
+    let a = f .before .before .before .before .args in
+    let no-text = subst (TextEnd (now (a .rest))) (c .enum-told .given .1) (f .text-end .ensures) in
+    shape-none (now (a .out)) (ap (withTarget (now (a .upstream))) no-text)
 
 same-length : tie.Need-same-length
 same-length c = search needs
 
 returns-2 : tie.Need-returns-2
-returns-2 c = let a = c .before .before .before .before .before .before .before .before .before .before .before .before .before .args in
-    shape-as (target-found (now (a .upstream)) (now (a .rest)) (subst (TextEnd (now (a .rest))) (c .before .before .before .before .before .before .before .found .given .1) (c .before .before .before .before .before .before .before .before .before .text-end .ensures))) (c .before .before .list-tail .ensures)
+returns-2 c =
+    let l = c .before .before in
+    let m = l .before .before .before .before .before in
+    let f = m .before .before in
+    let a = f .before .before .before .before .args in
+    let found = subst (TextEnd (now (a .rest))) (m .found .given .1) (f .text-end .ensures) in
+    shape-as (target-found (now (a .upstream)) (now (a .rest)) found) (l .list-tail .ensures)
 
 pub list-rest-spec : {M : Type 1} → statement M
 list-rest-spec =

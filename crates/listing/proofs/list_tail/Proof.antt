@@ -1,4 +1,4 @@
--- `list_tail` meets its contract. Assumes nothing.
+-- `list_tail` meets its contract: what stands behind the texts says whether there are parts. Assumes nothing.
 use mathlib.Core.Path.{ap, subst}
 use native.Mathlib.Omega.{arith}
 use borrow.Author.Needs.{needs}
@@ -19,13 +19,25 @@ enum-known-found : tie.Need-enum-known-found
 enum-known-found c = search needs
 
 sub-end : tie.Need-sub-end
-sub-end c = omega (arith, subst (EndingAt (now (c .before .before .before .before .before .before .before .before .args .tail))) (c .before .found .given .1) (c .before .before .before .tail-of .ensures) .inside)
+sub-end c =
+    let m = c .before in
+    let f = m .before .before in
+    let t = now (f .before .before .before .before .before .args .tail) in
+    omega (arith, subst (EndingAt t) (m .found .given .1) (f .tail-of .ensures) .inside)
 
 sub-list-parts : tie.Need-sub-list-parts
-sub-list-parts c = omega (arith, subst (EndingAt (now (c .before .before .before .before .before .before .before .before .args .tail))) (c .before .found .given .1) (c .before .before .before .tail-of .ensures) .inside)
+sub-list-parts c =
+    let m = c .before in
+    let f = m .before .before in
+    let t = now (f .before .before .before .before .before .args .tail) in
+    omega (arith, subst (EndingAt t) (m .found .given .1) (f .tail-of .ensures) .inside)
 
 part-list-parts-start : tie.Need-part-list-parts-start
-part-list-parts-start c = omega (arith, subst (EndingAt (now (c .before .before .before .before .before .before .before .before .args .tail))) (c .before .found .given .1) (c .before .before .before .tail-of .ensures) .inside)
+part-list-parts-start c =
+    let m = c .before in
+    let f = m .before .before in
+    let t = now (f .before .before .before .before .before .args .tail) in
+    omega (arith, subst (EndingAt t) (m .found .given .1) (f .tail-of .ensures) .inside)
 
 part-list-parts-end : tie.Need-part-list-parts-end
 part-list-parts-end c = search needs
@@ -34,15 +46,23 @@ list-parts-requires : tie.Need-list-parts-requires
 list-parts-requires c κs = search needs
 
 returns : tie.Need-returns
-returns c = let a = c .before .before .before .before .before .before .before .args in
-    shape-none (now (a .out)) (ap (withEnding (now (a .upstream)) (now (a .target))) (subst (EndingAt (now (a .tail))) (c .enum-told .given .1) (c .before .before .tail-of .ensures)))
+returns c =
+    let f = c .before .before in
+    let a = f .before .before .before .before .before .args in
+    let none = subst (EndingAt (now (a .tail))) (c .enum-told .given .1) (f .tail-of .ensures) in
+    shape-none (now (a .out)) (ap (withEnding (now (a .upstream)) (now (a .target))) none)
 
 same-length : tie.Need-same-length
 same-length c = search needs
 
 returns-2 : tie.Need-returns-2
-returns-2 c = let a = c .before .before .before .before .before .before .before .before .before .before .before .before .before .args in
-    shape-some (ap (withEnding (now (a .upstream)) (now (a .target))) (subst (EndingAt (now (a .tail))) (c .before .before .before .before .before .before .found .given .1) (c .before .before .before .before .before .before .before .before .tail-of .ensures) .whole)) (c .before .before .list-parts .ensures)
+returns-2 c =
+    let l = c .before .before in
+    let m = l .before .before .before .before in
+    let f = m .before .before in
+    let a = f .before .before .before .before .before .args in
+    let whole = subst (EndingAt (now (a .tail))) (m .found .given .1) (f .tail-of .ensures) .whole in
+    shape-some (ap (withEnding (now (a .upstream)) (now (a .target))) whole) (l .list-parts .ensures)
 
 pub list-tail-spec : {M : Type 1} → statement M
 list-tail-spec =

@@ -19,7 +19,8 @@ fronts : (c : tie.After-put-refusal)
 fronts c =
     let place = c .before .place in
     let number = c .before .before .number in
-    let line = put-fronts (c .put-refusal .ensures) (omega (arith, refused-length (number .result) (place .result) (omega (arith, number .ok)) (omega (arith, place .ok)))) in
+    let short = refused-length (number .result) (place .result) (omega (arith, number .ok)) (omega (arith, place .ok)) in
+    let line = put-fronts (c .put-refusal .ensures) (omega (arith, short)) in
     record {
       inside = line .inside;
       count = line .count;

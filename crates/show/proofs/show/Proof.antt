@@ -4,7 +4,7 @@ use mathlib.Core.Path.{_≡_, sym, ap, subst, _∙_}
 use mathlib.Core.List.{List}
 use borrow.Author.Needs.{needs}
 use denote.Ref.{now}
-use lib.ListN.{replicate, length-replicate}
+use lib.ListN.{length, replicate, length-replicate}
 use lib.Seq.{length-take-le}
 use Rattle.answers.specs.declared.Answer.{Answer}
 use Rattle.answers.specs.Given.{answerOf, Answers}
@@ -15,13 +15,18 @@ use Rattle.show.proofs.show.Statement.{statement}
 use Rattle.show.proofs.show.Tie as tie
 
 -- the answer of the listing is what was shown
-shown : (input : List ℕ) {r q : Answer} {after : List ℕ} → Answers (Listed input) (replicate 73728 0) r after → r ≡ q → Shown input q
+shown : (input : List ℕ) {r q : Answer} {after : List ℕ} → Answers (Listed input) (replicate 73728 0) r after → r ≡ q
+    → Shown input q
 shown input a e =
     record {
       given = a .given;
       listed = a .right;
-      answer = sym e ∙ a .answer ∙ ap (answerOf (a .given)) (length-replicate {A = ℕ} 73728 0);
+      answer = sym e ∙ a .delivered .answer ∙ ap (answerOf (a .given)) (length-replicate {A = ℕ} 73728 0);
     }
+
+-- and what it says that it has written is within the buffer
+written-within : (c : tie.After-list) {w f s : ℕ} → c .list .result ≡ Answer.Done w f s → w ≤ length (c .list .last .1 .0)
+written-within c {w} e = subst (λ (n : ℕ). w ≤ n) (sym (c .list .kept .1 .0)) (listing-within (replicate 73728 0) (c .list .ensures) e)
 
 slice-aggregate-list : tie.Need-slice-aggregate-list
 slice-aggregate-list c = search needs
@@ -33,13 +38,12 @@ enum-known-answer : tie.Need-enum-known-answer
 enum-known-answer c = search needs
 
 array-share-prefix-out : tie.Need-array-share-prefix-out
-array-share-prefix-out c = let l = c .before .before .before .before .list in
-    subst (λ (n : ℕ). c .before .answer .given .0 .0 ≤ n) (sym (l .kept .1 .0)) (listing-within (replicate 73728 0) (l .ensures) (c .before .answer .given .1))
+array-share-prefix-out c = written-within (c .before .before .before .before) (c .before .answer .given .1)
 
 slice-aggregate-write-all : tie.Need-slice-aggregate-write-all
-slice-aggregate-write-all c = let l = c .before .before .before .before .before .list in
-    sym (length-take-le _ (l .last .1 .0)
-    (subst (λ (n : ℕ). c .before .before .answer .given .0 .0 ≤ n) (sym (l .kept .1 .0)) (listing-within (replicate 73728 0) (l .ensures) (c .before .before .answer .given .1))))
+slice-aggregate-write-all c =
+    let l = c .before .before .before .before .before in
+    sym (length-take-le _ (l .list .last .1 .0) (written-within l (c .before .before .answer .given .1)))
 
 write-all-requires : tie.Need-write-all-requires
 write-all-requires c κs = search needs
@@ -51,10 +55,16 @@ show-refusal-requires : tie.Need-show-refusal-requires
 show-refusal-requires c κs = search needs
 
 returns : tie.Need-returns
-returns c = shown (now (c .before .before .before .before .before .before .before .before .before .args .input)) (c .before .before .before .before .before .before .list .ensures) (c .before .before .before .answer .given .1)
+returns c =
+    let told = c .before .before .before in
+    let l = told .before .before .before in
+    shown (now (l .before .before .before .args .input)) (l .list .ensures) (told .answer .given .1)
 
 returns-2 : tie.Need-returns-2
-returns-2 c = shown (now (c .before .before .before .before .before .before .before .before .args .input)) (c .before .before .before .before .before .list .ensures) (c .before .before .answer2 .given .1)
+returns-2 c =
+    let told = c .before .before in
+    let l = told .before .before .before in
+    shown (now (l .before .before .before .args .input)) (l .list .ensures) (told .answer2 .given .1)
 
 pub show-spec : {M : Type 1} → statement M
 show-spec =

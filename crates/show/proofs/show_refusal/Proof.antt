@@ -1,12 +1,20 @@
 -- `show_refusal` meets its contract: what is written is within the buffer. Assumes nothing of its own.
 use Prim.Native.Nat.{ℕ, _≤_}
-use mathlib.Core.Path.{sym, subst, _∙_}
+use mathlib.Core.Path.{_≡_, sym, subst}
 use borrow.Author.Needs.{needs}
+use lib.ListN.{length, replicate}
 use lib.Seq.{length-take-le}
-use Rattle.listing.specs.Printed.{refusalLine}
-use Rattle.listing.proofs.Fits.{answer-within}
+use Rattle.answers.specs.declared.Answer.{Answer}
+use Rattle.listing.proofs.Fits.{delivered-within}
 use Rattle.show.proofs.show_refusal.Statement.{statement}
 use Rattle.show.proofs.show_refusal.Tie as tie
+
+-- what the line's call says that it has written is within the buffer
+written-within : (c : tie.After-refusal-line) {w f s : ℕ} → c .refusal-line .result ≡ Answer.Done w f s
+    → w ≤ length (c .refusal-line .last .1 .0)
+written-within c {w} e =
+    let l = c .refusal-line in
+    subst (λ (n : ℕ). w ≤ n) (sym (l .kept .1 .0)) (delivered-within (replicate 53 0) (l .ensures) e)
 
 slice-aggregate-refusal-line : tie.Need-slice-aggregate-refusal-line
 slice-aggregate-refusal-line c = search needs
@@ -18,13 +26,12 @@ enum-known-answer : tie.Need-enum-known-answer
 enum-known-answer c = search needs
 
 array-share-prefix-line : tie.Need-array-share-prefix-line
-array-share-prefix-line c = let l = c .before .before .before .before .refusal-line in
-    subst (λ (n : ℕ). c .before .answer .given .0 .0 ≤ n) (sym (l .kept .1 .0)) (answer-within (refusalLine (c .before .before .before .before .before .before .args .why)) 0 0 53 (sym (c .before .answer .given .1) ∙ l .ensures .0))
+array-share-prefix-line c = written-within (c .before .before .before .before) (c .before .answer .given .1)
 
 slice-aggregate-write-all : tie.Need-slice-aggregate-write-all
-slice-aggregate-write-all c = let l = c .before .before .before .before .before .refusal-line in
-    sym (length-take-le _ (l .last .1 .0)
-    (subst (λ (n : ℕ). c .before .before .answer .given .0 .0 ≤ n) (sym (l .kept .1 .0)) (answer-within (refusalLine (c .before .before .before .before .before .before .before .args .why)) 0 0 53 (sym (c .before .before .answer .given .1) ∙ l .ensures .0))))
+slice-aggregate-write-all c =
+    let l = c .before .before .before .before .before in
+    sym (length-take-le _ (l .refusal-line .last .1 .0) (written-within l (c .before .before .answer .given .1)))
 
 write-all-requires : tie.Need-write-all-requires
 write-all-requires c κs = search needs

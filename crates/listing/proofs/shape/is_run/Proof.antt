@@ -1,4 +1,4 @@
--- `is_run` meets its contract. Assumes nothing.
+-- `is_run` meets its contract: each `return` by the tests that led there. Assumes nothing.
 use Prim.Native.Nat.{ℕ, _-_, _≤_}
 use mathlib.Core.Path.{_≡_, sym, ap, ap₂, _∙_}
 use mathlib.Core.Bool.{Bool, true, false, _&&_}
@@ -26,7 +26,10 @@ module _ (t : List ℕ) (long : 5 ≤ length t) {q : Bool} (e : q ≡ sameBytes 
   is-not h = sym (first-tests ∙ ap (λ (q : Bool). q && eqb (getD t (length t - 1) 0) 10) h)
 
 returns : tie.Need-returns
-returns c = let t = now (c .before .before .args .line) in sym (ap (λ (q : Bool). q && (sameBytes (take 4 t) (bytes "run ") && eqb (getD t (length t - 1) 0) 10)) (lt-leb _ _ (c .if1 .taken)))
+returns c =
+    let t = now (c .before .before .args .line) in
+    let rest = sameBytes (take 4 t) (bytes "run ") && eqb (getD t (length t - 1) 0) 10 in
+    sym (ap (λ (q : Bool). q && rest) (lt-leb _ _ (c .if1 .taken)))
 
 slice-aggregate-same : tie.Need-slice-aggregate-same
 slice-aggregate-same c = sym (length-take-le 4 (now (c .before .before .before .args .line)) (omega arith))
@@ -44,10 +47,16 @@ shared-slice-read-result : tie.Need-shared-slice-read-result
 shared-slice-read-result c = search needs
 
 returns-2 : tie.Need-returns-2
-returns-2 c = let t = now (c .before .before .before .before .before .before .before .args .line) in is-so t (c .before .before .before .before .before .if1 .left) (c .before .before .same .ensures) (c .before .if2 .taken)
+returns-2 c =
+    let s = c .before .before in
+    let f = s .before .before .before in
+    is-so (now (f .before .before .args .line)) (f .if1 .left) (s .same .ensures) (c .before .if2 .taken)
 
 returns-3 : tie.Need-returns-3
-returns-3 c = let t = now (c .before .before .before .before .before .before .args .line) in is-not t (c .before .before .before .before .if1 .left) (c .before .same .ensures) (c .if2 .left)
+returns-3 c =
+    let s = c .before in
+    let f = s .before .before .before in
+    is-not (now (f .before .before .args .line)) (f .if1 .left) (s .same .ensures) (c .if2 .left)
 
 pub is-run-spec : {M : Type 1} → statement M
 is-run-spec =

@@ -1,4 +1,4 @@
--- `line_end` meets its contract. Assumes nothing.
+-- `line_end` meets its contract: the first line ends with the first line feed. Assumes nothing.
 use Prim.Native.Nat.{ℕ, _+_}
 use mathlib.Core.Path.{_≡_, ap}
 use mathlib.Core.List.{List}

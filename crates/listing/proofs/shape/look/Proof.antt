@@ -1,4 +1,4 @@
--- `look` meets its contract. Assumes nothing.
+-- `look` meets its contract: the first line is compared with `end`. Assumes nothing.
 use mathlib.Core.Path.{sym, subst, _∙_}
 use borrow.Author.Needs.{needs}
 use denote.Ref.{now}
@@ -18,8 +18,11 @@ enum-known-line : tie.Need-enum-known-line
 enum-known-line c = search needs
 
 slice-aggregate-same : tie.Need-slice-aggregate-same
-slice-aggregate-same c = let o = c .before .before .before .before .before .before in
-    sym (length-take-le _ (now (o .args .text)) (subst (LineEnd (now (o .args .text))) (c .before .before .line .given .1) (c .before .before .before .before .line-end .ensures) .inside))
+slice-aggregate-same c =
+    let m = c .before .before in
+    let l = m .before .before in
+    let t = now (l .before .before .args .text) in
+    sym (length-take-le _ t (subst (LineEnd t) (m .line .given .1) (l .line-end .ensures) .inside))
 
 slice-aggregate-same-2 : tie.Need-slice-aggregate-same-2
 slice-aggregate-same-2 c = search needs
@@ -28,16 +31,25 @@ same-requires : tie.Need-same-requires
 same-requires c κs = search needs
 
 returns : tie.Need-returns
-returns c = let o = c .before .before .before .before in
-    subst (LineEnd (now (o .args .text))) (c .enum-told .given .1) (c .before .before .line-end .ensures) .no-text
+returns c =
+    let l = c .before .before in
+    subst (LineEnd (now (l .before .before .args .text))) (c .enum-told .given .1) (l .line-end .ensures) .no-text
 
 returns-2 : tie.Need-returns-2
-returns-2 c = let t = now (c .before .before .before .before .before .before .before .before .before .args .text) in
-    line-last (subst (LineEnd t) (c .before .before .before .before .before .line .given .1) (c .before .before .before .before .before .before .before .line-end .ensures)) (sym (c .before .same .ensures) ∙ c .if1 .taken)
+returns-2 c =
+    let s = c .before in
+    let m = s .before .before .before .before in
+    let l = m .before .before in
+    let line = subst (LineEnd (now (l .before .before .args .text))) (m .line .given .1) (l .line-end .ensures) in
+    line-last line (sym (s .same .ensures) ∙ c .if1 .taken)
 
 returns-3 : tie.Need-returns-3
-returns-3 c = let t = now (c .before .before .before .before .before .before .before .before .before .args .text) in
-    line-more (subst (LineEnd t) (c .before .before .before .before .before .line .given .1) (c .before .before .before .before .before .before .before .line-end .ensures)) (sym (c .before .same .ensures) ∙ c .if1 .left)
+returns-3 c =
+    let s = c .before in
+    let m = s .before .before .before .before in
+    let l = m .before .before in
+    let line = subst (LineEnd (now (l .before .before .args .text))) (m .line .given .1) (l .line-end .ensures) in
+    line-more line (sym (s .same .ensures) ∙ c .if1 .left)
 
 pub look-spec : {M : Type 1} → statement M
 look-spec =

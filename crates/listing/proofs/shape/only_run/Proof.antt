@@ -1,4 +1,4 @@
--- `only_run` meets its contract. Assumes nothing.
+-- `only_run` meets its contract: the first line ends the text, and is a run's. Assumes nothing.
 use mathlib.Core.Path.{subst}
 use borrow.Author.Needs.{needs}
 use denote.Ref.{now}
@@ -20,13 +20,23 @@ is-run-requires : tie.Need-is-run-requires
 is-run-requires c κs = search needs
 
 returns : tie.Need-returns
-returns c = run-alone (subst (LineEnd (now (c .before .before .before .before .before .before .before .args .rest))) (c .before .before .before .line .given .1) (c .before .before .before .before .before .line-end .ensures)) (c .before .if1 .taken) (c .is-run .ensures)
+returns c =
+    let m = c .before .before .before in
+    let l = m .before .before in
+    let line = subst (LineEnd (now (l .before .before .args .rest))) (m .line .given .1) (l .line-end .ensures) in
+    run-alone line (c .before .if1 .taken) (c .is-run .ensures)
 
 returns-2 : tie.Need-returns-2
-returns-2 c = subst (LineEnd (now (c .before .before .before .before .args .rest))) (c .enum-told .given .1) (c .before .before .line-end .ensures) .no-run
+returns-2 c =
+    let l = c .before .before in
+    subst (LineEnd (now (l .before .before .args .rest))) (c .enum-told .given .1) (l .line-end .ensures) .no-run
 
 returns-3 : tie.Need-returns-3
-returns-3 c = run-and-more (subst (LineEnd (now (c .before .before .before .before .before .before .args .rest))) (c .before .before .line .given .1) (c .before .before .before .before .line-end .ensures)) (c .if1 .left)
+returns-3 c =
+    let m = c .before .before in
+    let l = m .before .before in
+    let line = subst (LineEnd (now (l .before .before .args .rest))) (m .line .given .1) (l .line-end .ensures) in
+    run-and-more line (c .if1 .left)
 
 pub only-run-spec : {M : Type 1} → statement M
 only-run-spec =

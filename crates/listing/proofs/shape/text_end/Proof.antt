@@ -47,47 +47,61 @@ enum-told : tie.Need-enum-told Inv-loop μ-loop
 enum-told c = search needs
 
 returns : tie.Need-returns Inv-loop μ-loop
-returns c = let t = now (c .before .before .before .before .before .before .before .args .text) in
-    let at = c .before .before .before .before .before .loop .at in
-    no-text-found t at (c .before .before .before .before .before .loop .inv .1) (looked t at (c .enum-told .given .1) (c .before .before .look .ensures))
+returns c =
+    let l = c .before .before in
+    let h = l .before .before .before in
+    let t = now (h .before .before .args .text) in
+    no-text-found t (h .loop .at) (h .loop .inv .1) (looked t (h .loop .at) (c .enum-told .given .1) (l .look .ensures))
 
 enum-known-looked : tie.Need-enum-known-looked Inv-loop μ-loop
 enum-known-looked c = search needs
 
 add-t11 : tie.Need-add-t11 Inv-loop μ-loop
-add-t11 c = let t = now (c .before .before .before .before .before .before .before .before .args .text) in
-    let at = c .before .before .before .before .before .before .loop .at in
-    omega (arith, looked t at (c .before .looked .given .1) (c .before .before .before .look .ensures) .inside, length-drop at t)
+add-t11 c =
+    let l = c .before .before .before in
+    let h = l .before .before .before in
+    let t = now (h .before .before .args .text) in
+    omega (arith, looked t (h .loop .at) (c .before .looked .given .1) (l .look .ensures) .inside, length-drop (h .loop .at) t)
 
 returns-2 : tie.Need-returns-2 Inv-loop μ-loop
-returns-2 c = let t = now (c .before .before .before .before .before .before .before .before .args .text) in
-    let at = c .before .before .before .before .before .before .loop .at in
-    text-found t at (c .before .before .before .before .before .before .loop .inv .1) (c .before .before .before .before .before .before .loop .inv .0) (looked t at (c .before .looked .given .1) (c .before .before .before .look .ensures))
+returns-2 c =
+    let l = c .before .before .before in
+    let h = l .before .before .before in
+    let t = now (h .before .before .args .text) in
+    let found = looked t (h .loop .at) (c .before .looked .given .1) (l .look .ensures) in
+    text-found t (h .loop .at) (h .loop .inv .1) (h .loop .inv .0) found
 
 enum-known-looked-2 : tie.Need-enum-known-looked-2 Inv-loop μ-loop
 enum-known-looked-2 c = search needs
 
 add-at : tie.Need-add-at Inv-loop μ-loop
-add-at c = let t = now (c .before .before .before .before .before .before .before .before .args .text) in
-    let at = c .before .before .before .before .before .before .loop .at in
-    omega (arith, looked t at (c .before .looked2 .given .1) (c .before .before .before .look .ensures) .inside, length-drop at t)
+add-at c =
+    let l = c .before .before .before in
+    let h = l .before .before .before in
+    let t = now (h .before .before .args .text) in
+    omega (arith, looked t (h .loop .at) (c .before .looked2 .given .1) (l .look .ensures) .inside, length-drop (h .loop .at) t)
 
 loop-less : tie.Need-loop-less Inv-loop μ-loop
-loop-less c = let t = now (c .before .before .before .before .before .before .before .before .args .text) in
-    let at = c .before .before .before .before .before .before .loop .at in
-    let g = looked t at (c .before .looked2 .given .1) (c .before .before .before .look .ensures) in
-    omega (arith, g .some, g .inside, length-drop at t)
+loop-less c =
+    let l = c .before .before .before in
+    let h = l .before .before .before in
+    let t = now (h .before .before .args .text) in
+    let g = looked t (h .loop .at) (c .before .looked2 .given .1) (l .look .ensures) in
+    omega (arith, g .some, g .inside, length-drop (h .loop .at) t)
 
 loop-again : tie.Need-loop-again Inv-loop μ-loop
-loop-again c = let t = now (c .before .before .before .before .before .before .before .before .args .text) in
-    let at = c .before .before .before .before .before .before .loop .at in
-    let g = looked t at (c .before .looked2 .given .1) (c .before .before .before .look .ensures) in
-    (omega (arith, g .inside, length-drop at t), more-so-far t at (c .before .before .before .before .before .before .loop .inv .1) g)
+loop-again c =
+    let l = c .before .before .before in
+    let h = l .before .before .before in
+    let t = now (h .before .before .args .text) in
+    let g = looked t (h .loop .at) (c .before .looked2 .given .1) (l .look .ensures) in
+    (omega (arith, g .inside, length-drop (h .loop .at) t), more-so-far t (h .loop .at) (h .loop .inv .1) g)
 
 returns-3 : tie.Need-returns-3 Inv-loop μ-loop
-returns-3 c = let t = now (c .before .before .before .args .text) in
-    let at = c .before .loop .at in
-    no-text-found t at (c .before .loop .inv .1) (none-left t at (c .loop-test .left))
+returns-3 c =
+    let h = c .before in
+    let t = now (h .before .before .args .text) in
+    no-text-found t (h .loop .at) (h .loop .inv .1) (none-left t (h .loop .at) (c .loop-test .left))
 
 pub text-end-spec : {M : Type 1} → statement M
 text-end-spec =
