@@ -1,4 +1,4 @@
--- What stands after the two texts. Assumes nothing.
+-- What stands after the two texts: its first line is the way's, and the run's line is all that is left. Assumes nothing.
 use Prim.Native.Nat.{ℕ, _+_, _-_, _<_}
 use mathlib.Core.Path.{_≡_, refl, sym, ap, ap₂, subst, _∙_}
 use mathlib.Core.Bool.{Bool, true, false, _&&_, cond}

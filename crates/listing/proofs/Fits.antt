@@ -1,4 +1,4 @@
--- What a call says that it has written is within its buffer: a program's proof cites this. Assumes nothing.
+-- What a call says that it has written is within its buffer, since it says so only where it fits: a program's proof cites this. Assumes nothing.
 use Prim.Native.Nat.{ℕ, _≤_}
 use mathlib.Core.Path.{_≡_, refl}
 use mathlib.Core.Bool.{Bool, true, false, cond}
@@ -13,7 +13,7 @@ use Rattle.answers.specs.declared.Answer.{Answer}
 use Rattle.answers.specs.Buffer.{answerWith}
 use Rattle.answers.specs.Given.{Given, gives, refuses, answerOf, Delivers, Answers}
 
-pub answer-within : (text : List ℕ) (f z room : ℕ) {w g s : ℕ} → Answer.Done w g s ≡ answerWith text f z room → w ≤ room
+answer-within : (text : List ℕ) (f z room : ℕ) {w g s : ℕ} → Answer.Done w g s ≡ answerWith text f z room → w ≤ room
 unfolding answerWith
 answer-within text f z room {w} {g} {s} e = by (leb (length text) room) refl e
   where

@@ -1,4 +1,4 @@
--- Laws of lines, and of the texts among them. Assumes nothing.
+-- Laws of lines: the first ends with the first line feed, and a text is found line after line. Assumes nothing.
 use Prim.Native.Nat.{ℕ, zero, suc, _+_, _-_, _≤_, _<_}
 use mathlib.Core.Path.{_≡_, refl, sym, ap, ap₂, subst, _∙_}
 use mathlib.Core.Bool.{Bool, true, false, _&&_, cond}

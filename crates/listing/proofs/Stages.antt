@@ -1,4 +1,4 @@
--- The stages of the call, each once it is known how it goes. Assumes nothing.
+-- The stages of the call, each once it is known how it goes: what was found computes the shape. Assumes nothing.
 use Prim.Native.Nat.{ℕ, _-_, _≤_, _<_}
 use mathlib.Core.Path.{_≡_, sym, ap, subst, _∙_}
 use mathlib.Core.List.{List}

@@ -1,4 +1,5 @@
--- The contract of `list` allows one answer and one final buffer. Assumes nothing.
+-- The contract of `list` allows one answer and one final buffer: the stages exclude each other, and the rows of a machine are determined. Assumes
+-- nothing.
 use Prim.Native.Nat.{ℕ, zero, suc, _<_}
 use mathlib.Core.Path.{_≡_, refl, sym, ap, ap₂, subst, _∙_}
 use mathlib.Core.List.{List, _++_}
