@@ -1,2 +1,3 @@
 pub mod BuiltIns
 pub mod BuiltText
+pub mod Unique

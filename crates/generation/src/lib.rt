@@ -9,6 +9,7 @@ use answers::Verdict;
 use image::machine::Header;
 use machine::machine::Machine;
 use machine::machine::Outcome;
+use operations::alphabet::WORDS;
 use shims::Models;
 
 // What block 0 says of a machine and of its models' names.
@@ -49,7 +50,7 @@ fn write_made(made: Outcome, models: Models, rows: &[u16], out: &mut [u8]) -> An
 fn generate_models(models: Models, out: &mut [u8]) -> Answer
     ensures { λ r. ⌜ Answers (MachineGiven models) (now (out .entry)) r (now (out .exit)) ⌝ }
 {
-    let mut rows = [0u16; 5100];
+    let mut rows = [0u16; WORDS];
     let made = making::make(models, &mut rows);
     write_made(made, models, &rows, out)
 }

@@ -13,7 +13,7 @@ use Rattle.ground.specs.Bytes.{at, nameByte}
 use Rattle.answers.specs.Buffer.{bufferWith}
 use Rattle.answers.specs.declared.Refusal.{Refusal}
 use Rattle.answers.specs.declared.Verdict.{Verdict}
-use Rattle.operations.specs.Alphabet.{stride}
+use Rattle.operations.specs.Alphabet.{accessLetters, stride}
 use Rattle.layout.specs.declared.places.Place.{Place}
 use Rattle.image.specs.declared.machine.Header.{Header}
 use Rattle.image.specs.declared.machine.Reading.{Reading}
@@ -150,9 +150,9 @@ pub record Canonical (h : Header) (rows : List ℕ) : Type 0 where
   pub targets : h .targets ≤ 16
   pub upstream : NameField (h .upstream)
   pub target : NameField (h .target)
-  pub accesses : (s a : ℕ) → s < h .states → a < 4 → AccessWord h (word rows s a)
-  pub fences : (s f : ℕ) → s < h .states → f < h .ups → FenceWord h (word rows s (4 + f))
-  pub absent : (s f : ℕ) → s < h .states → h .ups ≤ f → f < 16 → word rows s (4 + f) ≡ 0
+  pub accesses : (s a : ℕ) → s < h .states → a < accessLetters → AccessWord h (word rows s a)
+  pub fences : (s f : ℕ) → s < h .states → f < h .ups → FenceWord h (word rows s (accessLetters + f))
+  pub absent : (s f : ℕ) → s < h .states → h .ups ≤ f → f < 16 → word rows s (accessLetters + f) ≡ 0
 
 -- an image of the layout: that of a machine of the layout
 pub record LaidOut (image : List ℕ) : Type 0 where

@@ -16,6 +16,7 @@ use operations::Byte;
 use operations::Kind;
 use operations::Operation;
 use operations::alphabet;
+use operations::alphabet::ACCESSES;
 
 // The limit of a stream.
 const LIMIT: usize = 4096;
@@ -70,7 +71,7 @@ fn take_fence(image: &[u8], state: usize, f: usize) -> Step
     if ground::number_at(image, 5) <= f {
         return Step::Stopped(Stop::NoSuchFence);
     }
-    let next = ground::number_at(image, places::entry_start(state as u8) + (8 + f));
+    let next = ground::number_at(image, places::entry_start(state as u8) + (2 * ACCESSES + f));
     Step::Taken(Move::Passed(next))
 }
 

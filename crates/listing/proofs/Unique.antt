@@ -7,8 +7,9 @@ use mathlib.Core.Option.{Option}
 use native.Mathlib.Omega.{arith}
 use Rattle.ground.proofs.Truths.{differ}
 use Rattle.ground.specs.Bytes.{bytes}
+use Rattle.answers.specs.declared.Refusal.{Refusal}
 use Rattle.answers.specs.declared.Answer.{Answer}
-use Rattle.answers.specs.Given.{Given, gives, refuses, Answers}
+use Rattle.answers.specs.Given.{Given, gives, refuses, Answers, Delivers}
 use Rattle.answers.proofs.Given as given
 use Rattle.rule.specs.declared.situation.Situation.{Situation}
 use Rattle.shims.specs.declared.WayRead.{WayRead}
@@ -20,7 +21,7 @@ use Rattle.mealy.specs.Runs.{Answer as Entry, Machine, Same}
 use Rattle.mealy.specs.Arrivals.{Described}
 use Rattle.mealy.proofs.Unique.{equal, same-states, not-more, described-at-most, described-unique}
 use Rattle.listing.specs.Shape.{Parts}
-use Rattle.listing.specs.Printed.{namesLine, numberLine, stepLine, stateLines, rowLines, outLine, Listing}
+use Rattle.listing.specs.Printed.{namesLine, numberLine, stepLine, stateLines, rowLines, outLine, Listing, refusalLine}
 use Rattle.listing.specs.Listed.{ruleOf, listingOf, listedText, MachineListed, crowded, overfull, made, ModelsListed, halts, runs, PartsListed, ShapeListed, shapeless, shaped, Listed, over, within}
 
 -- rows that agree where there are states and letters print the same lines
@@ -99,3 +100,8 @@ one-listing (within l a) (within k b) = shape-one a b
 pub one-answer : {input out after after′ : List ℕ} {r r′ : Answer} → Answers (Listed input) out r after → Answers (Listed input) out r′ after′
     → (r ≡ r′) × (after ≡ after′)
 one-answer {input} = given.one-answer (λ g h a b. one-listing {input = input} a b)
+
+-- and `refusal_line`
+pub line-one : (why : Refusal) {out after after′ : List ℕ} {r r′ : Answer} → Delivers (gives (refusalLine why) 0 0) out r after
+    → Delivers (gives (refusalLine why) 0 0) out r′ after′ → (r ≡ r′) × (after ≡ after′)
+line-one why = given.delivers-one refl

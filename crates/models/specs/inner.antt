@@ -1,4 +1,5 @@
--- What serves the crate's private functions and their proofs alone. A reader need not believe it.
+-- What the reader goes by, and with it `reading`, line after line. A reader of these files need not believe it: what `reading` means is `Told`, 01's
+-- words, which `reading` is proved to meet and nothing else does (proofs/Words, proofs/Unique).
 pub mod Lines
 pub mod Progress
 pub mod Parts

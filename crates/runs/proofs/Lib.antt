@@ -4,3 +4,4 @@ pub mod Counting
 pub mod Judging
 pub mod Running
 pub mod Theorems
+pub mod Unique

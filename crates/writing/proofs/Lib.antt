@@ -2,3 +2,4 @@ pub mod Lines
 pub mod Short
 pub mod RoundTrip
 pub mod WrittenBack
+pub mod Unique

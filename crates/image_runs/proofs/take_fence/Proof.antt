@@ -19,6 +19,9 @@ cast-entry-start c = search needs
 entry-start-requires : tie.Need-entry-start-requires
 entry-start-requires c κs = search needs
 
+mul-number-at : tie.Need-mul-number-at
+mul-number-at c = search needs
+
 add-number-at : tie.Need-add-number-at
 add-number-at c = search needs
 
@@ -43,6 +46,7 @@ take-fence-spec =
     returns
     cast-entry-start
     entry-start-requires
+    mul-number-at
     add-number-at
     add-number-at-2
     number-at-requires-2
