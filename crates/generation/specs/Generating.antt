@@ -1,11 +1,12 @@
 -- Generating to an image: two model texts, a way and a buffer. Document 01: "Order: way ..; upstream text (1, 2, 3); target text; ..; 8; 9; 7 last";
 -- "A machine's image" has the way, the states, the fences and the two names in its block 0.
-use Prim.Native.Nat.{ℕ}
+use Prim.Native.Nat.{ℕ, _*_}
 use mathlib.Core.Path.{_≡_}
 use mathlib.Core.List.{List}
 use lib.ListN.{replicate}
 use Rattle.answers.specs.declared.Refusal.{Refusal}
 use Rattle.answers.specs.Given.{Given, gives, refuses}
+use Rattle.operations.specs.Alphabet.{stride}
 use Rattle.shims.specs.declared.Models.{Models}
 use Rattle.shims.specs.Opening.{opened, GivenOnOpened}
 use Rattle.machine.specs.declared.machine.Machine.{Machine}
@@ -35,7 +36,7 @@ givenBy Outcome.Room m rows = refuses Refusal.BufferTooSmall
 
 -- the rows that the machine is made in hold 255 states, so that `Room` does not come about
 abbrev pub blank : List ℕ
-blank = replicate 5100 0
+blank = replicate (255 * stride) 0
 
 -- the machine between two models is made, and its image is what is given
 pub record MachineGiven (models : Models) (given : Given) : Type 0 where

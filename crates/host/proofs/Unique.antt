@@ -7,13 +7,14 @@ use Rattle.answers.specs.declared.Answer.{Answer}
 use Rattle.answers.specs.Answer.{numbersOf}
 use Rattle.answers.specs.Given.{Given, Delivers, Answers}
 use Rattle.answers.proofs.Given.{delivers-one}
+use Rattle.comparison.specs.declared.Compared.{Compared}
 use Rattle.image.specs.Calls.{Rewrites}
 use Rattle.image.proofs.Unique.{rewrites-one}
 use Rattle.listing.specs.Listed.{Listed}
 use Rattle.listing.proofs.Unique.{one-answer}
 use Rattle.generation.specs.Generating.{ImageGiven}
 use Rattle.generation.proofs.Unique as generated
-use Rattle.host.specs.Border.{numberIn, Tells}
+use Rattle.host.specs.Border.{numberIn, Tells, TellsRelation}
 
 -- a promise that one answer and one final buffer keep
 abbrev pub One : (Answer → List ℕ → Type 0) → Type 0
@@ -57,3 +58,8 @@ pub generate-one : (number : ℕ) (upstream target : List ℕ) {out : List ℕ} 
     → Tells (Answers (ImageGiven number upstream target) out) n′ numbers′ after′
     → (n ≡ n′) × (numbers ≡ numbers′) × (after ≡ after′)
 generate-one number upstream target a b = tells-one (λ x y s t p q. generated.one-answer number upstream target p q) a b
+
+-- and `shim_compare`
+pub compare-one : (compared : Compared) {n n′ relation relation′ : ℕ} {numbers numbers′ : List ℕ} → TellsRelation compared n relation numbers
+    → TellsRelation compared n′ relation′ numbers′ → (n ≡ n′) × (relation ≡ relation′) × (numbers ≡ numbers′)
+compare-one compared a b = (a .returned ∙ sym (b .returned), a .set ∙ sym (b .set), a .told ∙ sym (b .told))

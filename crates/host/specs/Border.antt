@@ -27,3 +27,9 @@ pub record Tells (Promise : Answer → List ℕ → Type 0) (number : ℕ) (numb
   pub promised : Promise what after
   pub returned : number ≡ numberIn what
   pub told : numbers ≡ numbersOf what
+
+-- what is told of a comparison: its relation too
+pub record TellsRelation (compared : Compared) (number relation : ℕ) (numbers : List ℕ) : Type 0 where
+  pub returned : number ≡ numberIn (comparedAs compared)
+  pub set : relation ≡ relationOf compared
+  pub told : numbers ≡ numbersOf (comparedAs compared)

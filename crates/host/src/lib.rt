@@ -11,7 +11,7 @@ ghost use Rattle.image.specs.Calls.{Rewrites};
 ghost use Rattle.image_runs.specs.Run.{runOver};
 ghost use Rattle.generation.specs.Generating.{ImageGiven};
 ghost use Rattle.listing.specs.Listed.{Listed};
-ghost use Rattle.host.specs.Border.{numberIn, relationOf, comparedAs, Tells};
+ghost use Rattle.host.specs.Border.{numberIn, relationOf, comparedAs, Tells, TellsRelation};
 use answers::Answer;
 use comparison::Compared;
 
@@ -113,9 +113,7 @@ pub extern "C" fn shim_compare<'a>(
     relation: &mut u64,
     answer: &mut [u64; 5],
 ) -> u64
-    ensures number { λ r. ⌜ r ≡ numberIn (comparedAs (comparing (now (first .entry)) (now (second .entry)))) ⌝ }
-    ensures relation { λ _. ⌜ now (relation .exit) ≡ relationOf (comparing (now (first .entry)) (now (second .entry))) ⌝ }
-    ensures answer { λ _. ⌜ now (answer .exit) ≡ numbersOf (comparedAs (comparing (now (first .entry)) (now (second .entry)))) ⌝ }
+    ensures { λ r. ⌜ TellsRelation (comparing (now (first .entry)) (now (second .entry))) r (now (relation .exit)) (now (answer .exit)) ⌝ }
 {
     let compared = comparison::compare(first, second);
     *relation = relation_in(compared);

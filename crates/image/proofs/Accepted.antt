@@ -11,17 +11,18 @@ use lib.Dec.{leb, ltb, eqb}
 use lib.ListN.{length}
 use Rattle.ground.specs.declared.Found.{Found}
 use Rattle.ground.specs.Bytes.{at}
-use Rattle.ground.proofs.Truths.{differ}
+use Rattle.ground.proofs.Truths.{differ, true-false}
 use Rattle.answers.specs.declared.Refusal.{Refusal}
 use Rattle.answers.specs.declared.Verdict.{Verdict}
 use Rattle.operations.specs.Alphabet.{stride}
 use Rattle.layout.specs.declared.places.Place.{Place}
 use Rattle.layout.specs.Checksum.{twoBytes}
 use Rattle.layout.specs.Layout.{limit, blocksFor, standsAt, position}
-use Rattle.layout.specs.Barred.{wrong, checkOf, blockCount, wrongCount, barredFence, nextBelow, statesOf, upstreamFencesOf, targetFencesOf, barredAs, barred, lowestWrong, lowestBarred, stages, verdictOf}
+use Rattle.layout.specs.Barred.{wrong, checkOf, blockCount, wrongCount, barredFence, nextBelow, statesOf, upstreamFencesOf, targetFencesOf}
+use Rattle.layout.specs.Barred.{barredAs, barred, lowestWrong, lowestBarred, stages, verdictOf}
 use Rattle.image.specs.Image.{word, half, used, valueAs, valueAt, checkFor, byteAt, imageOf, headerOf, entryWord, rowsOf, AccessWord, Canonical}
 use Rattle.image.specs.inner.Faultless.{Faultless, Block}
-use Rattle.image.proofs.Inverse.{true-false, neither, chosen, equal, nowhere}
+use Rattle.image.proofs.Inverse.{neither, chosen, equal, nowhere}
 use Rattle.image.proofs.Fronts.{at-listed, is-listed}
 use Rattle.layout.specs.inner.Standing.{Stands}
 use Rattle.layout.proofs.Standing.{stands, fence-at, next-at, onward-at, upstream-at, target-at, within-image}

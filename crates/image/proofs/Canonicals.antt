@@ -16,8 +16,10 @@ use Rattle.layout.specs.declared.places.Place.{Place}
 use Rattle.image.specs.declared.machine.Header.{Header}
 use Rattle.layout.specs.Checksum.{twoBytes}
 use Rattle.layout.specs.Layout.{limit, blocksFor, standsAt, position}
-use Rattle.layout.specs.Barred.{wrong, checkOf, blockCount, wrongCount, barredFence, nextBelow, statesOf, upstreamFencesOf, targetFencesOf, barredAs, barred, verdictOf}
-use Rattle.image.specs.Image.{listed, word, half, used, valueAs, valueAt, checkFor, byteAt, sizeOf, imageOf, headerOf, entryWord, rowsOf, AccessWord, Canonical}
+use Rattle.layout.specs.Barred.{wrong, checkOf, blockCount, wrongCount, barredFence, nextBelow, statesOf, upstreamFencesOf, targetFencesOf}
+use Rattle.layout.specs.Barred.{barredAs, barred, verdictOf}
+use Rattle.image.specs.Image.{listed, word, half, used, valueAs, valueAt, checkFor, byteAt, sizeOf, imageOf, headerOf, entryWord, rowsOf}
+use Rattle.image.specs.Image.{AccessWord, Canonical}
 use Rattle.image.proofs.Inverse.{all-nowhere}
 use Rattle.image.proofs.Fronts.{length-listed, at-listed, is-listed, front-whole}
 use Rattle.layout.proofs.Sums.{check-same}

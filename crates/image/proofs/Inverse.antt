@@ -8,10 +8,7 @@ use borrow.Author.Tests.{eqb-true, not-false}
 use lib.Dec.{eqb}
 use Rattle.ground.specs.declared.Found.{Found}
 use Rattle.ground.specs.Lowest.{lowest}
-use Rattle.ground.proofs.Truths.{differ}
-
-pub true-false : {A : Type 0} → true ≡ false → A
-true-false e = differ (cc)
+use Rattle.ground.proofs.Truths.{differ, true-false}
 
 -- no test passes of those that end a choice
 pub neither : (t : Bool) {x : Bool} → cond t true x ≡ false → (t ≡ false) × (x ≡ false)

@@ -6,10 +6,11 @@ use mathlib.Core.List.{List}
 use native.Mathlib.Decide.{ℕ-discrete, decLt}
 use native.Mathlib.Omega.{arith}
 use borrow.Author.Tests.{eq-eqb, ne-eqb}
+use Rattle.ground.proofs.Truths.{true-false}
 use Rattle.ground.specs.Bytes.{at, nameByte}
 use Rattle.layout.specs.Barred.{ended, barredName}
 use Rattle.image.specs.Image.{listed, NameField}
-use Rattle.image.proofs.Inverse.{true-false, chosen}
+use Rattle.image.proofs.Inverse.{chosen}
 use Rattle.image.proofs.Fronts.{length-listed, at-listed}
 
 pub name-nonzero : (b : ℕ) → nameByte b ≡ true → b ≡ 0 → ⊥

@@ -11,7 +11,8 @@ use Rattle.rule.specs.declared.way.Way.{Way}
 use Rattle.printing.specs.Decimal.{decimal}
 use Rattle.printing.proofs.Decimals.{length-digits}
 use Rattle.mealy.specs.Runs.{Answer}
-use Rattle.listing.specs.Printed.{wayWord, namesLine, numberLine, outLine, Listing, listing, refusedAt, fenceMark, nextState, stepLine, stateLines, rowLines}
+use Rattle.listing.specs.Printed.{wayWord, namesLine, numberLine, outLine, Listing, listing, refusedAt, fenceMark, nextState, stepLine}
+use Rattle.listing.specs.Printed.{stateLines, rowLines}
 use Rattle.listing.specs.inner.Limits.{Limited}
 
 -- lengths of parts

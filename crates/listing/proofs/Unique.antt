@@ -22,7 +22,8 @@ use Rattle.mealy.specs.Arrivals.{Described}
 use Rattle.mealy.proofs.Unique.{equal, same-states, not-more, described-at-most, described-unique}
 use Rattle.listing.specs.Shape.{Parts}
 use Rattle.listing.specs.Printed.{namesLine, numberLine, stepLine, stateLines, rowLines, outLine, Listing, refusalLine}
-use Rattle.listing.specs.Listed.{ruleOf, listingOf, listedText, MachineListed, crowded, overfull, made, ModelsListed, halts, runs, PartsListed, ShapeListed, shapeless, shaped, Listed, over, within}
+use Rattle.listing.specs.Listed.{ruleOf, listingOf, listedText, MachineListed, crowded, overfull, made, ModelsListed, halts, runs}
+use Rattle.listing.specs.Listed.{PartsListed, ShapeListed, shapeless, shaped, Listed, over, within}
 
 -- rows that agree where there are states and letters print the same lines
 state-same : (s : ℕ) (row wor : ℕ → Entry ℕ ℕ) (n : ℕ) → ((a : ℕ) → a < n → row a ≡ wor a) → stateLines s row n ≡ stateLines s wor n

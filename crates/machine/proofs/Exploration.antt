@@ -13,7 +13,7 @@ use Rattle.rule.specs.declared.situation.Situation.{Situation}
 use Rattle.mealy.specs.Runs.{Answer, refused, taken, Machine, reached}
 use Rattle.mealy.specs.Order.{_▹_}
 use Rattle.mealy.specs.Arrivals.{arrival, More}
-use Rattle.mealy.specs.Exploring.{Before}
+use Rattle.mealy.specs.inner.Exploring.{Before}
 use Rattle.mealy.proofs.Runs.{untaken, ends-on}
 use Rattle.mealy.proofs.Numbers.{split-last}
 use Rattle.mealy.proofs.Exploring.{ahead, explore-known, explore-new, explore-beyond}

@@ -16,7 +16,7 @@ use Rattle.rule.specs.Sides.{upstreamOf, targetOf}
 use Rattle.rule.specs.Rule.{wayNumber}
 use Rattle.mealy.specs.Runs.{taken, Machine, Same}
 use Rattle.mealy.specs.Arrivals.{Entry, Described, More, AtMost, Exactly}
-use Rattle.mealy.specs.Classes.{Numbering, classed, States}
+use Rattle.mealy.specs.inner.Classes.{Numbering, classed, States}
 use Rattle.mealy.proofs.Unique.{equal, arrivals-at-most, arrivals-exactly}
 use Rattle.mealy.proofs.Exploring.{explore-end}
 use Rattle.mealy.proofs.Numbering.{numbering-one}

@@ -7,7 +7,7 @@ use native.Mathlib.Omega.{arith}
 use lib.ListN.{length}
 use Rattle.ground.specs.Bytes.{at}
 use Rattle.operations.specs.Alphabet.{stride}
-use Rattle.mealy.specs.Classes.{Numbering}
+use Rattle.mealy.specs.inner.Classes.{Numbering}
 use Rattle.mealy.proofs.Numbers.{order, split-last}
 use Rattle.mealy.proofs.Refining.{firsts-rise}
 use Rattle.machine.specs.inner.Writing.{RowWritten, RowsWritten, FirstWritten, later, first}

@@ -8,7 +8,7 @@ use native.Mathlib.Omega.{arith}
 use lib.ListN.{length, set, replicate, length-set, length-replicate, getD-replicate}
 use lib.Seq.{getD-set-same, getD-set-other}
 use Rattle.ground.specs.Bytes.{at}
-use Rattle.mealy.specs.Classes.{Numbering}
+use Rattle.mealy.specs.inner.Classes.{Numbering}
 use Rattle.mealy.proofs.Numbers.{split-last}
 use Rattle.mealy.proofs.Numbering.{numbering-none, numbering-known, numbering-new}
 use Rattle.machine.specs.inner.Index.{capacity, needAt, Scratch, Index, Pair, Absent, Pushed, Placed, known, added, full}

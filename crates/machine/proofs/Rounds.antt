@@ -7,7 +7,7 @@ use lib.ListN.{length, take, drop, drop-of-length-le}
 use lib.Seq.{take-all}
 use Rattle.ground.specs.Bytes.{at}
 use Rattle.mealy.specs.Runs.{Machine}
-use Rattle.mealy.specs.Classes.{Coarse, Round, States}
+use Rattle.mealy.specs.inner.Classes.{Coarse, Round, States}
 use Rattle.mealy.proofs.Refining.{split-coarse, round-start, round-next, round-end}
 use Rattle.machine.specs.inner.Index.{capacity, Scratch}
 use Rattle.machine.specs.inner.Words.{words, tabled, key}

@@ -15,10 +15,9 @@ use Rattle.rule.specs.Stream.{Stream}
 use Rattle.rule.specs.Pairs.{Model}
 use Rattle.rule.specs.Sides.{upstreamOf, targetOf}
 use Rattle.rule.specs.Rule.{done, onward, run}
-use Rattle.mealy.specs.Runs.{Machine as Mealy, ends, reached, Same}
+use Rattle.mealy.specs.Runs.{Machine as Mealy, ends, reached, Same, Closed}
 use Rattle.mealy.specs.Order.{_≺_}
 use Rattle.mealy.specs.Arrivals.{arrival, More}
-use Rattle.mealy.specs.Classes.{Closed}
 use Rattle.mealy.proofs.Pigeonhole.{pigeonhole}
 use Rattle.mealy.proofs.Numbers.{first-without}
 use Rattle.mealy.proofs.Unique.{apart-one, not-more, equal, same-states}

@@ -38,7 +38,7 @@ fn key_of<'a>(table: &'a [u32], classes: &'a [u8], i: usize, a: usize) -> u64
 }
 
 // No pair is linked.
-pub(crate) fn clear(links: &mut [u16])
+fn clear(links: &mut [u16])
     ensures { λ _. ⌜ now (links .exit) ≡ replicate (length (now (links .entry))) 0 ⌝ }
 {
     let mut b = 0;

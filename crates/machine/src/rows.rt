@@ -4,7 +4,7 @@ ghost use mathlib.Core.Path.{_≡_};
 ghost use lib.ListN.{length};
 ghost use Rattle.ground.specs.Bytes.{at};
 ghost use Rattle.operations.specs.Alphabet.{stride};
-ghost use Rattle.mealy.specs.Classes.{Numbering};
+ghost use Rattle.mealy.specs.inner.Classes.{Numbering};
 ghost use Rattle.machine.specs.inner.Index.{capacity};
 ghost use Rattle.machine.specs.inner.Words.{words, Slot};
 ghost use Rattle.machine.specs.inner.Writing.{stateWord, stateEntry, RowWritten, RowsWritten, FirstWritten, Narrow};

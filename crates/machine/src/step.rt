@@ -11,7 +11,7 @@ use rule::way::Shim;
 use rule::way::Step;
 
 // The output, a fence's number or 255 for none, and the next situation.
-pub enum Answered {
+pub(crate) enum Answered {
     Taken(usize, Situation),
     Refused,
 }

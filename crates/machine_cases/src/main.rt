@@ -8,6 +8,7 @@ use cases::fields::field;
 use machine::machine::Machine;
 use machine::machine::Outcome;
 use models::model::Model;
+use operations::alphabet;
 use operations::alphabet::ACCESSES;
 use operations::alphabet::STRIDE;
 use operations::alphabet::WORDS;
@@ -86,25 +87,14 @@ fn built_ins(way: u64) {
 }
 
 fn print_letter(letter: usize) {
-    match letter {
-        0 => {
-            io::write_all(1, b" l ");
-        }
-        1 => {
-            io::write_all(1, b" L ");
-        }
-        2 => {
-            io::write_all(1, b" s ");
-        }
-        3 => {
-            io::write_all(1, b" S ");
-        }
-        _ => {
-            io::write_all(1, b" ");
-            io::print_decimal(1, (letter - ACCESSES) as u64);
-            io::write_all(1, b" ");
-        }
+    io::write_all(1, b" ");
+    if letter < ACCESSES {
+        let byte = [alphabet::letter_byte(letter)];
+        io::write_all(1, &byte);
+    } else {
+        io::print_decimal(1, (letter - ACCESSES) as u64);
     }
+    io::write_all(1, b" ");
 }
 
 fn print_word(word: u64) {

@@ -7,9 +7,8 @@ use native.Mathlib.Omega.{arith}
 use native.Mathlib.Decide.{decLt}
 use borrow.Author.Tests.{lt-ltb}
 use lib.ListN.{getD}
-use Rattle.mealy.specs.Runs.{Answer, refused, taken, Machine, preceded, gets, go, ends, AcceptedFrom, reached, Same}
+use Rattle.mealy.specs.Runs.{Answer, refused, taken, Machine, preceded, gets, go, ends, AcceptedFrom, reached, Same, Closed}
 use Rattle.mealy.specs.Arrivals.{arrival, Entry, Described, numbered}
-use Rattle.mealy.specs.Classes.{Closed}
 use Rattle.mealy.proofs.Order.{below-nil, at-most-nil}
 use Rattle.mealy.proofs.Runs.{untaken, same-trans, same-refused, same-taken, first-taken}
 use Rattle.mealy.proofs.Numbers.{order}

@@ -10,7 +10,7 @@ use lib.Seq.{getD-append-seam, append-snoc}
 use Rattle.mealy.specs.Runs.{Answer, refused, taken, Machine, go, ends, Accepted, AcceptedFrom, reached}
 use Rattle.mealy.specs.Order.{_≺_, _≼_, _▹_}
 use Rattle.mealy.specs.Arrivals.{arrival, More, Entry, Described}
-use Rattle.mealy.specs.Exploring.{Met, Before, Exploring}
+use Rattle.mealy.specs.inner.Exploring.{Met, Before, Exploring}
 use Rattle.mealy.proofs.Order.{below-on, below-last, nil-below, at-most-on, at-most-trans}
 use Rattle.mealy.proofs.Runs.{untaken, accepted-on, ends-on, first-taken}
 use Rattle.mealy.proofs.Numbers.{split-last}

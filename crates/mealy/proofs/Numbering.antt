@@ -4,7 +4,7 @@ use mathlib.Core.Path.{_≡_, _∙_, ap}
 use mathlib.Core.Logic.{_⊎_, ⊎-elim}
 use native.Mathlib.Omega.{arith}
 use native.Mathlib.Decide.{decLt}
-use Rattle.mealy.specs.Classes.{Numbering}
+use Rattle.mealy.specs.inner.Classes.{Numbering}
 use Rattle.mealy.proofs.Numbers.{split-last}
 
 pub numbering-none : (class : ℕ → ℕ) → Numbering 0 class 0

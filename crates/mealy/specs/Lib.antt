@@ -1,5 +1,4 @@
 pub mod Runs
 pub mod Order
 pub mod Arrivals
-pub mod Classes
-pub mod Exploring
+pub mod inner

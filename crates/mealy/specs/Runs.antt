@@ -1,7 +1,7 @@
 -- 01, "The machine": "Two accepted streams lead to the same state exactly when every continuation gets the same further output and refusals,
 -- length limits set aside."
 -- A machine answers one letter at a time. Its letters are the places of its alphabet, 0 upwards; a stream is a list of letters, of any length.
-use Prim.Native.Nat.{ℕ, suc, _≤_}
+use Prim.Native.Nat.{ℕ, suc, _≤_, _<_}
 use mathlib.Core.Path.{_≡_}
 use mathlib.Core.Bool.{Bool, true, false}
 use mathlib.Core.List.{List, [], _∷_}
@@ -65,3 +65,7 @@ reached m w = ends m (m .fresh) w
 -- two situations are the same state: every continuation gets the same outputs and the same refusals
 pub record Same {S O : Type 0} (m : Machine S O) (s t : S) : Type 0 where
   pub same : (w : List ℕ) → gets m s w ≡ gets m t w
+
+-- no step leads out of the k situations
+pub record Closed {O : Type 0} (m : Machine ℕ O) (k : ℕ) : Type 0 where
+  pub stays : (i a : ℕ) (o : O) (j : ℕ) → i < k → m .step i a ≡ taken o j → j < k

@@ -9,7 +9,7 @@ use Rattle.ground.specs.Bytes.{inRange}
 use Rattle.operations.specs.declared.Kind.{Kind}
 use Rattle.operations.specs.declared.Operation.{Operation}
 use Rattle.operations.specs.declared.Byte.{Byte}
-use Rattle.operations.specs.Operation.{byteIs, accessByte, fenceByte, byteOf}
+use Rattle.operations.specs.Operation.{byteIs, accessByte, fenceByte, byteOf, HasByte}
 
 -- a byte that is none of the four letters
 abbrev pub NoLetter : ℕ → Type 0
@@ -70,11 +70,6 @@ access-read Kind.Ld = refl
 access-read Kind.Cld = refl
 access-read Kind.St = refl
 access-read Kind.Cst = refl
-
--- the operations that have a byte
-abbrev pub HasByte : Operation → Type 0
-HasByte (Operation.Access k) = Unit {0}
-HasByte (Operation.Fence n) = n < 16
 
 pub read-written : (op : Operation) → HasByte op → byteIs (byteOf op) ≡ Byte.Is op
 read-written (Operation.Access k) h = access-read k

@@ -1,5 +1,5 @@
 -- Document 01: "An operation is one byte: `l` ld, `L` cld, `s` st, `S` cst, `0` to `9` then `A` to `F` for fence numbers 0 to 15."
-use Prim.Native.Nat.{ℕ, _+_, _-_}
+use Prim.Native.Nat.{ℕ, _+_, _-_, _<_}
 use mathlib.Core.Bool.{cond}
 use lib.Dec.{ltb, eqb}
 use Rattle.ground.specs.Bytes.{inRange}
@@ -30,3 +30,8 @@ fenceByte n = cond (ltb n 10) (48 + n) (cond (ltb n 16) (65 + (n - 10)) 0)
 abbrev pub byteOf : Operation → ℕ
 byteOf (Operation.Access k) = accessByte k
 byteOf (Operation.Fence n) = fenceByte n
+
+-- the operations that have a byte
+abbrev pub HasByte : Operation → Type 0
+HasByte (Operation.Access k) = Unit {0}
+HasByte (Operation.Fence n) = n < 16

@@ -8,7 +8,7 @@ use native.Mathlib.Omega.{arith}
 use lib.ListN.{length}
 use Rattle.ground.specs.declared.Found.{Found}
 use Rattle.ground.specs.Lowest.{lowest}
-use Rattle.ground.proofs.Truths.{differ}
+use Rattle.ground.proofs.Truths.{differ, not-both}
 use Rattle.tables.specs.declared.table.Table.{Table}
 use Rattle.tables.specs.Table.{atLeast}
 use Rattle.operations.specs.declared.Kind.{Kind}
@@ -18,7 +18,6 @@ use Rattle.rule.specs.Stream.{Stream, fence}
 use Rattle.rule.specs.Pairs.{Model, settled}
 use Rattle.rule.specs.Rule.{taken, last, pick, Takes, NoneWillDo, rule, Ran, refused}
 use Rattle.rule.specs.Situation.{none, serves, choiceOf}
-use Rattle.rule.proofs.Folds.{not-both}
 
 -- how a run goes on after a choice
 abbrev pub goes-on : Ran → (ℕ → Ran) → Choice → Ran

@@ -19,7 +19,9 @@ use Rattle.rule.specs.declared.way.Choice.{Choice}
 use Rattle.rule.specs.Stream.{Stream, access, fence, accesses, count, kindAt, fences, before, after, between}
 use Rattle.rule.specs.Pairs.{Model, fenceTable, isRow, isColumn, highest, Keeps}
 use Rattle.rule.specs.Rule.{rule}
-use Rattle.rule.proofs.Streams.{accesses-append, accesses-before, count-append, count-fence, count-access, kind-append, kind-next, before-append, before-next, before-before, after-append, fences-append, fences-split, fences-before, highest-fence, highest-access, default-offered, fence-stands}
+use Rattle.rule.proofs.Streams.{accesses-append, accesses-before, count-append, count-fence, count-access, kind-append, kind-next}
+use Rattle.rule.proofs.Streams.{before-append, before-next, before-before, after-append, fences-append, fences-split, fences-before}
+use Rattle.rule.proofs.Streams.{highest-fence, highest-access, default-offered, fence-stands}
 use Rattle.rule.proofs.Kept.{settled-means, some-short}
 use Rattle.rule.proofs.Choices.{rule-fence, fence-will-do}
 use Rattle.rule.proofs.EveryPair.{kept-by}

@@ -1,21 +1,19 @@
 -- Tests and strengths taken over many pairs. Assumes nothing.
 use Prim.Native.Nat.{ℕ, zero, suc, _≤_, _<_, max, min}
-use mathlib.Core.Path.{_≡_, refl, sym, ap, ap₂, subst, _∙_}
+use mathlib.Core.Path.{_≡_, refl, sym, ap, ap₂, _∙_}
 use mathlib.Core.Bool.{Bool, true, false, cond}
 use mathlib.Core.List.{List, [], _∷_, map}
 use native.Mathlib.Decide.{decLt}
 use native.Mathlib.Omega.{arith}
 use borrow.Author.Tests.{eq-eqb, eqb-true}
-use lib.Dec.{T, eqb}
+use lib.Dec.{eqb}
+use Rattle.ground.proofs.Truths.{not-both}
 use Rattle.tables.specs.Table.{excess}
 use Rattle.tables.proofs.Excess.{excess-none, excess-of-higher, excess-over-lower}
 use Rattle.rule.specs.Pairs.{oneOf, every, everyBelow}
 use Rattle.rule.specs.Situation.{highestBelow, leastBelow}
 
 -- tests
-
-pub not-both : {a : Bool} → a ≡ true → a ≡ false → ⊥
-not-both e f = subst T (sym e ∙ f) tt
 
 both-true : (a b : Bool) → cond a b false ≡ true → (a ≡ true) × (b ≡ true)
 both-true true b e = (refl, e)

@@ -18,10 +18,13 @@ use Rattle.rule.specs.declared.way.Way.{Way}
 use Rattle.rule.specs.declared.way.Choice.{Choice}
 use Rattle.rule.specs.Stream.{Stream, access, fence, accesses, count, kindAt, after}
 use Rattle.rule.specs.Pairs.{Model, fenceTable, isRow, isColumn, highest, settled}
-use Rattle.rule.specs.Situation.{highestBelow, leastBelow, needAt, lowAt, need, low, situation, inRows, outsideRows, inColumns, asks, offers, joins, pending, none, choiceOf, stepOf, resumed, steps}
+use Rattle.rule.specs.Situation.{highestBelow, leastBelow, needAt, lowAt, need, low, situation, inRows, outsideRows, inColumns, asks}
+use Rattle.rule.specs.Situation.{offers, joins, pending, none, choiceOf, stepOf, resumed, steps}
 use Rattle.rule.specs.Rule.{pick, rule, onward, behind, Ran}
-use Rattle.rule.proofs.Streams.{same-access, same-fence, count-fence, count-access, kind-append, kind-next, after-append, after-next, highest-access, highest-fence, highest-below}
-use Rattle.rule.proofs.Folds.{highest-cong, least-cong, highest-at-most, least-below, highest-both, cond-higher, excess-over-least, excess-of-highest, least-raised, same-test, highest-from}
+use Rattle.rule.proofs.Streams.{same-access, same-fence, count-fence, count-access, kind-append, kind-next, after-append, after-next}
+use Rattle.rule.proofs.Streams.{highest-access, highest-fence, highest-below}
+use Rattle.rule.proofs.Folds.{highest-cong, least-cong, highest-at-most, least-below, highest-both, cond-higher, excess-over-least}
+use Rattle.rule.proofs.Folds.{excess-of-highest, least-raised, same-test, highest-from}
 use Rattle.rule.proofs.Choices.{goes-on}
 use Rattle.rule.proofs.Kept.{settled-means, means-settled}
 

@@ -11,7 +11,8 @@ use Rattle.rule.specs.declared.way.Choice.{Choice}
 use Rattle.rule.specs.Stream.{Stream, access, fence, accesses, count, kindAt, before, through}
 use Rattle.rule.specs.Pairs.{Model}
 use Rattle.rule.specs.Rule.{rule}
-use Rattle.rule.proofs.Streams.{count-fence, count-access, kind-append, kind-next, before-append, before-next, through-append, through-next, same-fence}
+use Rattle.rule.proofs.Streams.{count-fence, count-access, kind-append, kind-next, before-append, before-next, through-append}
+use Rattle.rule.proofs.Streams.{through-next, same-fence}
 use Rattle.rule.proofs.Reach.{Reach, fresh, passed, plain, fenced, reach-same}
 
 -- what a choice puts; `Puts c put` is that the access was not refused and `put` is what was put

@@ -7,6 +7,7 @@ use mathlib.Core.List.{[], _∷_, _++_, append-nil}
 use native.Mathlib.Decide.{decLe}
 use native.Mathlib.Omega.{arith}
 use lib.ListN.{length}
+use Rattle.ground.proofs.Truths.{not-both}
 use Rattle.tables.specs.declared.table.Row.{Row}
 use Rattle.tables.specs.declared.table.Column.{Column}
 use Rattle.tables.specs.Table.{cell, table}
@@ -21,7 +22,6 @@ use Rattle.rule.specs.Rule.{Takes, rule, done, refused, onward, run, NoF
 use Rattle.rule.specs.Situation.{situation, fresh, steps}
 use Rattle.rule.proofs.Kept.{settled-means, means-settled}
 use Rattle.rule.proofs.Choices.{rule-nothing, rule-fence, rule-refused, short-rule, none-pick}
-use Rattle.rule.proofs.Folds.{not-both}
 use Rattle.rule.proofs.Reach.{Reach, reach-same, run-reach}
 use Rattle.rule.proofs.EveryPair.{reach-keeps}
 use Rattle.rule.proofs.Stands.{Puts, reach-stands, reach-ends}

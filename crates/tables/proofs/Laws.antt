@@ -13,7 +13,8 @@ use Rattle.tables.specs.declared.table.Row.{Row}
 use Rattle.tables.specs.declared.table.Column.{Column}
 use Rattle.tables.specs.declared.table.Table.{Table}
 use Rattle.tables.specs.Cells.{digit, packed}
-use Rattle.tables.specs.Table.{rowNumber, columnNumber, cells, place, cell, rowOf, columnOf, table, Clean, excess, Merge, merged, mergedTable, atLeast, levelsTable}
+use Rattle.tables.specs.Table.{rowNumber, columnNumber, cells, place, cell, rowOf, columnOf, table, Clean, excess, Merge, merged}
+use Rattle.tables.specs.Table.{mergedTable, atLeast, levelsTable}
 use Rattle.tables.specs.inner.Planes.{pickedTable}
 use Rattle.tables.proofs.Excess.{excess-none, excess-below, excess-lifts}
 use Rattle.tables.proofs.Packed.{packed-below, packed-cong, digit-packed, packed-own}

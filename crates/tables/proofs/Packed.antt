@@ -1,7 +1,8 @@
 -- Laws of numbers read as cells of two bits: what a packed number holds, and that its cells determine it. Assumes nothing.
 use Prim.Native.Nat.{ℕ, zero, suc, _+_, _*_, _-_, _/_, _%_, _^_, _≤_, _<_}
 use mathlib.Core.Path.{_≡_, refl, sym, ap, ap₂, _∙_}
-use native.Mathlib.Nat.{mod-lt, mod-mod, mod-one, mod-eq-of-lt, div-eq-of-lt, zero-add, add-mul-div-left, add-mul-div-right, add-mul-mod-self-left, mul-comm, mul-left-comm, add-comm}
+use native.Mathlib.Nat.{mod-lt, mod-mod, mod-one, mod-eq-of-lt, div-eq-of-lt, zero-add, add-mul-div-left, add-mul-div-right}
+use native.Mathlib.Nat.{add-mul-mod-self-left, mul-comm, mul-left-comm, add-comm}
 use native.Mathlib.Decide.{decLt}
 use native.Mathlib.Omega.{arith}
 use lib.Arith.{digits-lt, mod-mul}

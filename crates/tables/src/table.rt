@@ -4,7 +4,8 @@ ghost use Prim.Native.Nat.{_+_, _*_, _/_, _^_, _<_};
 ghost use mathlib.Core.Path.{_≡_};
 ghost use lib.Bits.{bitAnd, bitOr, bitXor};
 ghost use Rattle.tables.specs.Cells.{digit};
-ghost use Rattle.tables.specs.Table.{rowNumber, columnNumber, place, cells, cell, higher, lower, exceeding, atLeast, rowTable, columnTable, levelsTable};
+ghost use Rattle.tables.specs.Table.{rowNumber, columnNumber, place, cells, cell, higher, lower, exceeding, atLeast, rowTable};
+ghost use Rattle.tables.specs.Table.{columnTable, levelsTable};
 ghost use Rattle.tables.specs.inner.Planes.{ones, overPlane, pickedTable};
 use crate::strength::Strength;
 

@@ -1,4 +1,4 @@
--- `byte_at` meets its contract. Assumes nothing.
+-- `byte_at` meets its contract: by whether the place is inside the bytes. Assumes nothing.
 use mathlib.Core.Path.{sym}
 use borrow.Author.Needs.{needs}
 use denote.Ref.{now}

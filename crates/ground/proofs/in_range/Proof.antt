@@ -1,4 +1,4 @@
--- `in_range` meets its contract. Assumes nothing.
+-- `in_range` meets its contract: each `return` by the comparison that led there. Assumes nothing.
 use borrow.Author.Tests.{le-leb, lt-leb}
 use Rattle.ground.proofs.in_range.Statement.{statement}
 use Rattle.ground.proofs.in_range.Tie as tie

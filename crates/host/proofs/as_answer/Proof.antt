@@ -1,4 +1,4 @@
--- `as_answer` meets its contract. Assumes nothing.
+-- `as_answer` meets its contract: by whether the comparison was refused. Assumes nothing.
 use borrow.Author.Needs.{needs}
 use Rattle.host.proofs.as_answer.Statement.{statement}
 use Rattle.host.proofs.as_answer.Tie as tie

@@ -1,4 +1,4 @@
--- `shim_compare` meets its contract. Assumes nothing.
+-- `shim_compare` meets its contract: it tells what the comparison below answers, number by number. Assumes nothing.
 use mathlib.Core.Path.{ap, _∙_}
 use borrow.Author.Needs.{needs}
 use Rattle.answers.specs.Answer.{numbersOf}
@@ -23,7 +23,11 @@ returns c =
     let t = c .tell .ensures in
     let e = c .before .before .before .before .compare .ensures in
     let a = c .before .before .as-answer .ensures ∙ ap comparedAs e in
-    (t .0 ∙ ap numberIn a, (c .before .before .before .relation-in .ensures ∙ ap relationOf e, t .1 ∙ ap numbersOf a))
+    record {
+      returned = t .0 ∙ ap numberIn a;
+      set = c .before .before .before .relation-in .ensures ∙ ap relationOf e;
+      told = t .1 ∙ ap numbersOf a;
+    }
 
 pub shim-compare-spec : {M : Type 1} → statement M
 shim-compare-spec =

@@ -10,7 +10,7 @@ use Rattle.rule.specs.declared.situation.Situation.{Situation}
 use Rattle.rule.specs.Situation.{fresh}
 use Rattle.mealy.specs.Runs.{Answer, refused, taken, Machine}
 use Rattle.mealy.specs.Arrivals.{arrival, More}
-use Rattle.mealy.specs.Exploring.{Exploring}
+use Rattle.mealy.specs.inner.Exploring.{Exploring}
 use Rattle.machine.specs.declared.step.Answered.{Answered}
 use Rattle.machine.specs.inner.Index.{capacity, needAt, lowAt, Index, Placed}
 use Rattle.machine.specs.inner.Words.{words, answer, row}

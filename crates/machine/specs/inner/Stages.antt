@@ -6,7 +6,7 @@ use lib.ListN.{length}
 use Rattle.ground.specs.Bytes.{at}
 use Rattle.operations.specs.Alphabet.{lettersWith}
 use Rattle.rule.specs.declared.way.Shim.{Shim}
-use Rattle.mealy.specs.Classes.{States}
+use Rattle.mealy.specs.inner.Classes.{States}
 use Rattle.machine.specs.declared.machine.Outcome.{Outcome}
 use Rattle.machine.specs.Shim.{shimOf}
 use Rattle.machine.specs.Generated.{Built}

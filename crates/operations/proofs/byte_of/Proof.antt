@@ -1,4 +1,4 @@
--- `byte_of` meets its contract. Assumes nothing.
+-- `byte_of` meets its contract: an access and a fence have their own functions. Assumes nothing.
 use borrow.Author.Needs.{needs}
 use Rattle.operations.proofs.byte_of.Statement.{statement}
 use Rattle.operations.proofs.byte_of.Tie as tie

@@ -1,4 +1,4 @@
--- `numbers` meets its contract. Assumes nothing.
+-- `numbers` meets its contract: by whether the answer is a refusal. Assumes nothing.
 use borrow.Author.Needs.{needs}
 use Rattle.answers.proofs.Answer.numbers.Statement.{statement}
 use Rattle.answers.proofs.Answer.numbers.Tie as tie

@@ -3,7 +3,7 @@ use Prim.Native.Nat.{_-_}
 use native.Mathlib.Omega.{arith}
 use borrow.Author.Needs.{needs}
 use Rattle.ground.specs.Bytes.{at}
-use Rattle.mealy.specs.Classes.{Numbering}
+use Rattle.mealy.specs.inner.Classes.{Numbering}
 use Rattle.machine.specs.inner.Writing.{stateEntry}
 use Rattle.machine.proofs.Firsts.{Writing, writing-start, writing-next, writing-room, writing-end}
 use Rattle.machine.proofs.rows.write_rows.Statement.{statement}

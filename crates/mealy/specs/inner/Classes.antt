@@ -15,10 +15,6 @@ abbrev pub classed : {O : Type 0} → (ℕ → ℕ) → Answer O ℕ → Answer 
 classed class refused = refused
 classed class (taken o j) = taken o (class j)
 
--- no step leads out of the k situations
-pub record Closed {O : Type 0} (m : Machine ℕ O) (k : ℕ) : Type 0 where
-  pub stays : (i a : ℕ) (o : O) (j : ℕ) → i < k → m .step i a ≡ taken o j → j < k
-
 -- same states are never parted
 abbrev pub Coarse : {O : Type 0} → Machine ℕ O → ℕ → (ℕ → ℕ) → Type 0
 Coarse m k class = (i j : ℕ) → i < k → j < k → Same m i j → class i ≡ class j
