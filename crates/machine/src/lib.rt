@@ -95,7 +95,7 @@ fn search<'a>(
 
 // Generates the machine of a shim, by its way and its two default tables, with the packed tables of the upstream model's fences and of the target
 // model's, and writes its rows.
-// The table of answers, 320 KiB, is on the stack of this call, and some 84 KiB of scratch on those of the calls in it.
+// The table of answers, 320 KiB, is on the stack of this call, and some 88 KiB of scratch on those of the calls in it.
 pub fn generate<'a>(shim: Shim, ups: &'a [u64], fences: &'a [u64], rows: &mut [u16]) -> Outcome
     ensures { λ r. ⌜ Generated shim (now (ups .entry)) (now (fences .entry)) (now (rows .entry)) r (now (rows .exit)) ⌝ }
 {
