@@ -72,12 +72,18 @@ fn name_in(text: &[u8], from: usize, past: usize) -> Name
     held::first_bytes(&text[from..past])
 }
 
+// A loop of its own, since `ground::same` wants both names in memory: with it a text of ten fences took half as long again to read.
 fn same_name(a: Name, b: Name) -> bool
     ensures { λ r. ⌜ r ≡ sameBytes (a .bytes) (b .bytes) ⌝ }
 {
-    let first = a.bytes;
-    let second = b.bytes;
-    ground::same(&first, &second)
+    let mut i = 0;
+    while i < 16 {
+        if a.bytes[i] != b.bytes[i] {
+            return false;
+        }
+        i += 1;
+    }
+    true
 }
 
 // Whether a name stands among the first of sixteen.
