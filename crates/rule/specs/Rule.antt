@@ -37,8 +37,8 @@ abbrev pub pick : Way → (ℕ → Bool) → ℕ → Choice
 pick Way.Sparing f n = taken (lowest f 0 n)
 pick Way.Full f n = last f n
 
--- what follows of the fence g that a way takes: it is "the lowest-numbered target fence that leaves none of these pairs short" or "the
--- highest-numbered fence, if that leaves none short"; and that no fence will do for the way
+-- the fence g that a way takes: "the lowest-numbered target fence that leaves none of these pairs short" or "the
+-- highest-numbered fence, if that leaves none short"; and no fence will do for the way
 abbrev pub Takes : Way → (ℕ → Bool) → ℕ → ℕ → Type 0
 Takes Way.Sparing f n g = (g < n) × (f g ≡ true) × ((h : ℕ) → h < g → f h ≡ false)
 Takes Way.Full f n g = (suc g ≡ n) × (f g ≡ true)
