@@ -1,16 +1,19 @@
--- What stands before each access of an output. Assumes nothing.
+-- What stands before each access of an output, and that its fences are the target's: the rule takes no other. Assumes nothing.
 use Prim.Native.Nat.{ℕ, _<_}
 use mathlib.Core.Path.{_≡_, refl, sym, ap, subst, _∙_}
-use mathlib.Core.List.{[], _++_, append-nil, append-assoc}
+use mathlib.Core.Bool.{Bool}
+use mathlib.Core.List.{[], _∷_, _++_, append-nil, append-assoc}
 use native.Mathlib.Decide.{decLt}
 use native.Mathlib.Omega.{arith}
 use lib.ListN.{length}
 use Rattle.operations.specs.declared.Kind.{Kind}
+use Rattle.operations.specs.declared.Operation.{Operation}
 use Rattle.rule.specs.declared.way.Way.{Way}
 use Rattle.rule.specs.declared.way.Choice.{Choice}
 use Rattle.rule.specs.Stream.{Stream, access, fence, accesses, count, kindAt, before, through}
-use Rattle.rule.specs.Pairs.{Model}
-use Rattle.rule.specs.Rule.{rule}
+use Rattle.rule.specs.Pairs.{Model, settled}
+use Rattle.rule.specs.Rule.{Takes, rule, everyFence}
+use Rattle.rule.proofs.Choices.{rule-fence}
 use Rattle.rule.proofs.Streams.{count-fence, count-access, kind-append, kind-next, before-append, before-next, through-append}
 use Rattle.rule.proofs.Streams.{through-next, same-fence}
 use Rattle.rule.proofs.Reach.{Reach, fresh, passed, plain, fenced, reach-same}
@@ -21,12 +24,33 @@ Puts Choice.Nothing put = put ≡ []
 Puts (Choice.Fence g) put = put ≡ fence g
 Puts Choice.Refused put = ⊥
 
+every-append : (p : ℕ → Type 0) (s t : Stream) → everyFence p s → everyFence p t → everyFence p (s ++ t)
+every-append p [] t h k = k
+every-append p (Operation.Access x ∷ s) t h k = every-append p s t h k
+every-append p (Operation.Fence n ∷ s) t h k = (h .0, every-append p s t (h .1) k)
+
 module _ (way : Way) (up target : Model) where
   -- before access j of the output there stands what was put out through the access before it, and then what the rule puts
   abbrev pub Stands : Stream → Stream → ℕ → Type 0
   Stands input output j =
       (put : Stream) × (before j output ≡ through j output ++ put)
       × Puts (rule way up target (before j input) (through j output) (kindAt input j)) put
+
+  -- a fence that the way takes is one of the target's, so all are
+  taken-own : (f : ℕ → Bool) (n g : ℕ) → Takes way f n g → g < n
+  taken-own f n g = at way
+    where
+      at : (w : Way) → Takes w f n g → g < n
+      at Way.Sparing h = h .0
+      at Way.Full h = omega (arith, h .0)
+
+  pub reach-own : {input output : Stream} → Reach way up target input output → everyFence (λ (n : ℕ). n < length (target .fences)) output
+  reach-own fresh = tt
+  reach-own (passed h n) = reach-own h
+  reach-own (plain {output = o} h k e) = every-append _ o (access k) (reach-own h) tt
+  reach-own (fenced {input = i} {output = o} h k g e) =
+      let own = taken-own (λ (h : ℕ). settled up target i (o ++ fence h) k) (length (target .fences)) g (rule-fence way up target i o k g e .1) in
+      every-append _ (o ++ fence g) (access k) (every-append _ o (fence g) (reach-own h) (own, tt)) tt
 
   -- nothing stands behind the last access of an output
   pub reach-ends : {input output : Stream} → Reach way up target input output → through (count output) output ≡ output

@@ -24,7 +24,7 @@ use Rattle.rule.proofs.Kept.{settled-means, means-settled}
 use Rattle.rule.proofs.Choices.{rule-nothing, rule-fence, rule-refused, short-rule, none-pick}
 use Rattle.rule.proofs.Reach.{Reach, reach-same, run-reach}
 use Rattle.rule.proofs.EveryPair.{reach-keeps}
-use Rattle.rule.proofs.Stands.{Puts, reach-stands, reach-ends}
+use Rattle.rule.proofs.Stands.{Puts, reach-own, reach-stands, reach-ends}
 use Rattle.rule.proofs.Fewest.{reach-fewest}
 use Rattle.rule.proofs.Continued.{refused-stuck, stuck-refused}
 use Rattle.rule.proofs.Situations.{by-situations}
@@ -36,6 +36,10 @@ module _ (way : Way) (up target : Model) (input output : Stream) (accepted : run
   -- The output's accesses are the input's, in order.
   pub same-accesses : accesses output ≡ accesses input
   same-accesses = reach-same way up target reached
+
+  -- So the output is a placing: the input's accesses, with fences of the target among them.
+  pub is-a-placing : Placing target input output
+  is-a-placing = record { same = same-accesses; its = reach-own way up target reached }
 
   -- Every pair is kept: what is asked of it is at most what is offered to it.
   pub every-pair-kept : Keeps up target input output

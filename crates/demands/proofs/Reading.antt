@@ -1,0 +1,259 @@
+-- A stream of bytes and its operations: as long as each byte is an operation of the upstream model they go side by side, byte by byte, and where that
+-- ends the fault stands. Assumes nothing.
+use Prim.Native.Nat.{ℕ, suc, _+_, _<_, _≤_}
+use mathlib.Core.Path.{_≡_, refl, sym, ap, ap₂, subst, _∙_}
+use mathlib.Core.Bool.{Bool, true, false, cond}
+use mathlib.Core.Logic.{_⊎_, inl, inr}
+use mathlib.Core.List.{List, [], _∷_, _++_, map}
+use mathlib.Core.Option.{Option, none, some}
+use native.Mathlib.Omega.{arith}
+use borrow.Author.Tests.{ltb-true, ltb-false, lt-ltb, le-ltb}
+use lib.Dec.{ltb}
+use lib.ListN.{length}
+use Rattle.ground.proofs.Truths.{differ}
+use Rattle.answers.specs.declared.Refusal.{Refusal}
+use Rattle.operations.specs.declared.Kind.{Kind}
+use Rattle.operations.specs.declared.Operation.{Operation}
+use Rattle.operations.specs.declared.Byte.{Byte}
+use Rattle.operations.specs.Operation.{byteIs}
+use Rattle.rule.specs.Stream.{Stream}
+use Rattle.rule.specs.Rule.{everyFence}
+use Rattle.runs.specs.Bytes.{Judged, good, bad, judgedAs, judged, operationsFrom, operations, faultFrom, fault}
+use Rattle.demands.specs.Streams.{Reads}
+
+-- an operation of an upstream model of n fences
+abbrev pub OfN : ℕ → Operation → Type 0
+OfN n (Operation.Access k) = Unit {0}
+OfN n (Operation.Fence f) = f < n
+
+abbrev pub Below : ℕ → Stream → Type 0
+Below n s = everyFence (λ (f : ℕ). f < n) s
+
+pub below-on : (n : ℕ) (op : Operation) (s : Stream) → OfN n op → Below n s → Below n (op ∷ s)
+below-on n (Operation.Access k) s h b = b
+below-on n (Operation.Fence f) s h b = (h, b)
+
+below-first : (n : ℕ) (op : Operation) (s : Stream) → Below n (op ∷ s) → OfN n op × Below n s
+below-first n (Operation.Access k) s b = (tt, b)
+below-first n (Operation.Fence f) s b = b
+
+-- what a byte is by its judgement, and the other way round
+
+pub good-is : (n at b : ℕ) (op : Operation) → judged n at b ≡ good op → (byteIs b ≡ Byte.Is op) × OfN n op
+good-is n at b op e = look (byteIs b) refl
+  where
+    tested : (t : Bool) (f : ℕ) → ltb f n ≡ t → byteIs b ≡ Byte.Is (Operation.Fence f)
+        → cond t (good (Operation.Fence f)) (bad (Refusal.NoSuchFence at)) ≡ good op → (byteIs b ≡ Byte.Is op) × OfN n op
+    tested true f l h z =
+        let m : Operation.Fence f ≡ op = cc in
+        (h ∙ ap (λ (x : Operation). Byte.Is x) m, subst (OfN n) m (ltb-true f n l))
+    tested false f l h z = differ (cc)
+
+    look : (x : Byte) → byteIs b ≡ x → (byteIs b ≡ Byte.Is op) × OfN n op
+    look Byte.Nothing h =
+        let z : bad (Refusal.NoOperation at) ≡ good op = sym (ap (judgedAs n at) h) ∙ e in
+        differ (cc)
+    look (Byte.Is (Operation.Access k)) h =
+        let z : good (Operation.Access k) ≡ good op = sym (ap (judgedAs n at) h) ∙ e in
+        let m : Operation.Access k ≡ op = cc in
+        (h ∙ ap (λ (x : Operation). Byte.Is x) m, subst (OfN n) m tt)
+    look (Byte.Is (Operation.Fence f)) h = tested (ltb f n) f refl h (sym (ap (judgedAs n at) h) ∙ e)
+
+pub is-good : (n at b : ℕ) (op : Operation) → byteIs b ≡ Byte.Is op → OfN n op → judged n at b ≡ good op
+is-good n at b (Operation.Access k) e h = ap (judgedAs n at) e
+is-good n at b (Operation.Fence f) e h =
+    ap (judgedAs n at) e ∙ ap (λ (t : Bool). cond t (good (Operation.Fence f)) (bad (Refusal.NoSuchFence at))) (lt-ltb f n h)
+
+-- a byte at fault: it is no operation, or a fence that the upstream model has not
+pub data AtFault (n at b : ℕ) : Refusal → Type 0 where
+  no-operation : byteIs b ≡ Byte.Nothing → AtFault n at b (Refusal.NoOperation at)
+  no-such-fence : (f : ℕ) → byteIs b ≡ Byte.Is (Operation.Fence f) → n ≤ f → AtFault n at b (Refusal.NoSuchFence at)
+
+pub bad-is : (n at b : ℕ) (why : Refusal) → judged n at b ≡ bad why → AtFault n at b why
+bad-is n at b why e = look (byteIs b) refl
+  where
+    tested : (t : Bool) (f : ℕ) → ltb f n ≡ t → byteIs b ≡ Byte.Is (Operation.Fence f)
+        → cond t (good (Operation.Fence f)) (bad (Refusal.NoSuchFence at)) ≡ bad why → AtFault n at b why
+    tested true f l h z = differ (cc)
+    tested false f l h z =
+        let m : Refusal.NoSuchFence at ≡ why = cc in
+        subst (AtFault n at b) m (no-such-fence f h (ltb-false f n l))
+
+    look : (x : Byte) → byteIs b ≡ x → AtFault n at b why
+    look Byte.Nothing h =
+        let z : bad (Refusal.NoOperation at) ≡ bad why = sym (ap (judgedAs n at) h) ∙ e in
+        let m : Refusal.NoOperation at ≡ why = cc in
+        subst (AtFault n at b) m (no-operation h)
+    look (Byte.Is (Operation.Access k)) h =
+        let z : good (Operation.Access k) ≡ bad why = sym (ap (judgedAs n at) h) ∙ e in
+        differ (cc)
+    look (Byte.Is (Operation.Fence f)) h = tested (ltb f n) f refl h (sym (ap (judgedAs n at) h) ∙ e)
+
+pub is-bad : (n at b : ℕ) {why : Refusal} → AtFault n at b why → judged n at b ≡ bad why
+is-bad n at b (no-operation e) = ap (judgedAs n at) e
+is-bad n at b (no-such-fence f e l) =
+    ap (judgedAs n at) e ∙ ap (λ (t : Bool). cond t (good (Operation.Fence f)) (bad (Refusal.NoSuchFence at))) (le-ltb f n l)
+
+-- what is read of bytes that are one more
+reads-first : (b : ℕ) (bytes : List ℕ) (op : Operation) (s : Stream) → Reads (b ∷ bytes) (op ∷ s) → (byteIs b ≡ Byte.Is op) × Reads bytes s
+reads-first b bytes op s e = ((cc), (cc))
+
+pub reads-on : (b : ℕ) (bytes : List ℕ) (op : Operation) (s : Stream) → byteIs b ≡ Byte.Is op → Reads bytes s → Reads (b ∷ bytes) (op ∷ s)
+reads-on b bytes op s e h = ap₂ (λ (x : Byte) (l : List Byte). x ∷ l) e h
+
+-- Bytes that read as operations of the model, and then any others: the operations are these and then those of the others, and the fault is theirs.
+pub read-then : (n at : ℕ) (bytes : List ℕ) (s : Stream) (rest : List ℕ) → Reads bytes s → Below n s
+    → (operations n at (bytes ++ rest) ≡ s ++ operations n (at + length bytes) rest) × (fault n at (bytes ++ rest) ≡ fault n (at + length bytes) rest)
+unfolding operations fault
+read-then n at [] [] rest e h =
+    let z : at ≡ at + 0 = omega arith in
+    (ap (λ (k : ℕ). operations n k rest) z, ap (λ (k : ℕ). fault n k rest) z)
+read-then n at [] (op ∷ s) rest e h = differ (cc)
+read-then n at (b ∷ bytes) [] rest e h = differ (cc)
+read-then n at (b ∷ bytes) (op ∷ s) rest e h =
+    let first = reads-first b bytes op s e in
+    let own = below-first n op s h in
+    let j = is-good n at b op (first .0) (own .0) in
+    let more = read-then n (suc at) bytes s rest (first .1) (own .1) in
+    let z : suc at + length bytes ≡ at + suc (length bytes) = omega arith in (
+      ap (λ (x : Judged). operationsFrom x (operations n (suc at) (bytes ++ rest))) j
+      ∙ ap (λ (l : Stream). op ∷ l) (more .0 ∙ ap (λ (k : ℕ). s ++ operations n k rest) z),
+      ap (λ (x : Judged). faultFrom x (fault n (suc at) (bytes ++ rest))) j ∙ more .1 ∙ ap (λ (k : ℕ). fault n k rest) z,
+    )
+
+-- Bytes without fault read as their operations, which are the model's.
+pub reads-all : (n at : ℕ) (bytes : List ℕ) → fault n at bytes ≡ none → Reads bytes (operations n at bytes) × Below n (operations n at bytes)
+unfolding operations fault
+reads-all n at [] e = (refl, tt)
+reads-all n at (b ∷ bytes) e = look (judged n at b) refl (λ h. reads-all n (suc at) bytes h) e
+  where
+    ops : Stream
+    ops = operations n (suc at) bytes
+
+    look : (j : Judged) → judged n at b ≡ j → (fault n (suc at) bytes ≡ none → Reads bytes ops × Below n ops)
+        → faultFrom j (fault n (suc at) bytes) ≡ none
+        → Reads (b ∷ bytes) (operationsFrom j ops) × Below n (operationsFrom j ops)
+    look (good op) h more z =
+        let g = good-is n at b op h in
+        let m = more z in
+        (reads-on b bytes op ops (g .0) (m .0), below-on n op ops (g .1) (m .1))
+    look (bad why) h more z = differ (cc)
+
+-- The first byte at fault: what stands before it are all the operations.
+pub record FaultAt (n at : ℕ) (bytes : List ℕ) (why : Refusal) : Type 0 where
+  pub first : List ℕ
+  pub byte : ℕ
+  pub rest : List ℕ
+  pub split : bytes ≡ first ++ (byte ∷ rest)
+  pub reads : Reads first (operations n at bytes)
+  pub below : Below n (operations n at bytes)
+  pub at-fault : AtFault n (at + length first) byte why
+
+pub faults : (n at : ℕ) (bytes : List ℕ) (why : Refusal) → fault n at bytes ≡ some why → FaultAt n at bytes why
+unfolding operations fault
+faults n at [] why e = differ (cc)
+faults n at (b ∷ bytes) why e = look (judged n at b) refl (λ h. faults n (suc at) bytes why h) e
+  where
+    ops : Stream
+    ops = operations n (suc at) bytes
+
+    whole : (j : Judged) → judged n at b ≡ j → operationsFrom (judged n at b) ops ≡ operationsFrom j ops
+    whole j h = ap (λ (x : Judged). operationsFrom x ops) h
+
+    look : (j : Judged) → judged n at b ≡ j → (fault n (suc at) bytes ≡ some why → FaultAt n (suc at) bytes why)
+        → faultFrom j (fault n (suc at) bytes) ≡ some why → FaultAt n at (b ∷ bytes) why
+    look (good op) h more z =
+        let g = good-is n at b op h in
+        let m = more z in
+        let k : suc at + length (m .first) ≡ at + suc (length (m .first)) = omega arith in
+        record {
+          first = b ∷ m .first;
+          byte = m .byte;
+          rest = m .rest;
+          split = ap (λ (l : List ℕ). b ∷ l) (m .split);
+          reads = subst (Reads (b ∷ m .first)) (sym (whole (good op) h)) (reads-on b (m .first) op ops (g .0) (m .reads));
+          below = subst (Below n) (sym (whole (good op) h)) (below-on n op ops (g .1) (m .below));
+          at-fault = subst (λ (i : ℕ). AtFault n i (m .byte) why) k (m .at-fault);
+        }
+    look (bad other) h more z =
+        let same : other ≡ why = cc in
+        let k : at ≡ at + 0 = omega arith in
+        record {
+          first = [];
+          byte = b;
+          rest = bytes;
+          split = refl;
+          reads = subst (Reads []) (sym (whole (bad other) h)) refl;
+          below = subst (Below n) (sym (whole (bad other) h)) tt;
+          at-fault = subst (λ (i : ℕ). AtFault n i b why) k (subst (AtFault n at b) same (bad-is n at b other h));
+        }
+
+-- One of the operations: the byte that it is, and what stands before it.
+pub record OperationAt (n at : ℕ) (bytes : List ℕ) (first : Stream) (op : Operation) : Type 0 where
+  pub before : List ℕ
+  pub byte : ℕ
+  pub rest : List ℕ
+  pub split : bytes ≡ before ++ (byte ∷ rest)
+  pub reads : Reads before first
+  pub below : Below n first
+  pub is : byteIs byte ≡ Byte.Is op
+
+pub stands : (n at : ℕ) (bytes : List ℕ) (first : Stream) (op : Operation) (rest : Stream) → operations n at bytes ≡ first ++ (op ∷ rest)
+    → OperationAt n at bytes first op
+unfolding operations
+stands n at [] [] op rest e = differ (cc)
+stands n at [] (x ∷ first) op rest e = differ (cc)
+stands n at (b ∷ bytes) first op rest e = look (judged n at b) refl first e (λ more h. stands n (suc at) bytes more op rest h)
+  where
+    ops : Stream
+    ops = operations n (suc at) bytes
+
+    look : (j : Judged) → judged n at b ≡ j → (first : Stream) → operationsFrom j ops ≡ first ++ (op ∷ rest)
+        → ((more : Stream) → ops ≡ more ++ (op ∷ rest) → OperationAt n (suc at) bytes more op) → OperationAt n at (b ∷ bytes) first op
+    look (good o) h [] z again =
+        let same : o ≡ op = cc in
+        let g = good-is n at b o h in
+        record {
+          before = [];
+          byte = b;
+          rest = bytes;
+          split = refl;
+          reads = refl;
+          below = tt;
+          is = g .0 ∙ ap (λ (x : Operation). Byte.Is x) same;
+        }
+    look (good o) h (x ∷ more) z again =
+        let same : o ≡ x = cc in
+        let tail : ops ≡ more ++ (op ∷ rest) = cc in
+        let g = good-is n at b o h in
+        let m = again more tail in
+        record {
+          before = b ∷ m .before;
+          byte = m .byte;
+          rest = m .rest;
+          split = ap (λ (l : List ℕ). b ∷ l) (m .split);
+          reads = reads-on b (m .before) x more (g .0 ∙ ap (λ (y : Operation). Byte.Is y) same) (m .reads);
+          below = below-on n x more (subst (OfN n) same (g .1)) (m .below);
+          is = m .is;
+        }
+    look (bad why) h [] z again = differ (cc)
+    look (bad why) h (x ∷ more) z again = differ (cc)
+
+-- As many bytes as operations.
+pub reads-length : (bytes : List ℕ) (s : Stream) → Reads bytes s → length bytes ≡ length s
+reads-length [] [] e = refl
+reads-length [] (op ∷ s) e = differ (cc)
+reads-length (b ∷ bytes) [] e = differ (cc)
+reads-length (b ∷ bytes) (op ∷ s) e = ap suc (reads-length bytes s (reads-first b bytes op s e .1))
+
+-- One stream alone is read.
+pub reads-one : (bytes : List ℕ) (s t : Stream) → Reads bytes s → Reads bytes t → s ≡ t
+reads-one [] [] [] d e = refl
+reads-one [] [] (op ∷ t) d e = differ (cc)
+reads-one [] (op ∷ s) t d e = differ (cc)
+reads-one (b ∷ bytes) [] t d e = differ (cc)
+reads-one (b ∷ bytes) (op ∷ s) [] d e = differ (cc)
+reads-one (b ∷ bytes) (op ∷ s) (o ∷ t) d e =
+    let first : Byte.Is op ≡ Byte.Is o = sym (reads-first b bytes op s d .0) ∙ reads-first b bytes o t e .0 in
+    let same : op ≡ o = cc in
+    ap₂ (λ (x : Operation) (l : Stream). x ∷ l) same (reads-one bytes s t (reads-first b bytes op s d .1) (reads-first b bytes o t e .1))

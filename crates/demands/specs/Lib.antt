@@ -1,0 +1,3 @@
+pub mod Streams
+pub mod Opened
+pub mod DirectRuns
