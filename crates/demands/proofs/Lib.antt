@@ -1,3 +1,6 @@
 pub mod Reading
 pub mod Opening
 pub mod Direct
+pub mod Delivered
+pub mod Running
+pub mod Demand1

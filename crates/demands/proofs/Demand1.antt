@@ -1,0 +1,82 @@
+-- Demand 1: "Every public call takes every text, stream, image, number and buffer, of length nought too, stays within bounds and ends." That is what a
+-- proof of a function in Rattle says, and no public function has a `requires`. "Bad input is refused by the number and place that document 01 gives; a
+-- refused call writes nothing": here, of the answers and the buffers. Assumes nothing.
+use Prim.Native.Nat.{ℕ, _<_}
+use mathlib.Core.Path.{_≡_, refl, sym, ap, subst, _∙_}
+use mathlib.Core.Logic.{_↔_}
+use mathlib.Core.List.{List, [], _∷_, map}
+use native.Mathlib.Omega.{arith}
+use lib.ListN.{length, length-map}
+use Rattle.ground.proofs.Truths.{differ}
+use Rattle.answers.specs.declared.Refusal.{Refusal}
+use Rattle.answers.specs.declared.Answer.{Answer}
+use Rattle.answers.specs.Answer.{numberOf, placeOf, numbersOf}
+use Rattle.answers.specs.Given.{Given, gives, refuses, Delivers, Answers}
+use Rattle.operations.specs.Operation.{byteOf}
+use Rattle.runs.specs.Bytes.{puts}
+use Rattle.runs.specs.Call.{outcome}
+use Rattle.demands.specs.DirectRuns.{RunRefused, opening, over-limit, no-operation, no-such-fence, no-fence-will-do, too-small}
+use Rattle.demands.proofs.Delivered.{Withheld, refused, exceeds, refused-withheld, withheld-refused}
+use Rattle.demands.proofs.Direct.{DirectIs, puts-out, at-4, at-5, at-6}
+use Rattle.demands.proofs.Running.{RunIs, unopened, over, runs, run-is, is-run}
+
+-- A refused call tells its number and place and zeros, and leaves every byte of the buffer as it was: of every call that writes, whatever it has to give.
+pub refused-writes-nothing : {given : Given} {out after : List ℕ} {why : Refusal} → Delivers given out (Answer.Refused why) after
+    → (numbersOf (Answer.Refused why) ≡ numberOf why ∷ placeOf why ∷ 0 ∷ 0 ∷ 0 ∷ []) × (after ≡ out)
+refused-writes-nothing d = (refl, refused-withheld d .0)
+
+-- A direct run is refused exactly when 01 says, with the place that it gives.
+module _ {number : ℕ} {upstream target stream out : List ℕ} {r : Answer} {after : List ℕ}
+    (call : Delivers (outcome number upstream target stream) out r after) where
+  pub run-refused-exactly-when : (why : Refusal) → (r ≡ Answer.Refused why) ↔ RunRefused number upstream target stream (length out) why
+  run-refused-exactly-when why = (
+    λ e. given-told (refused-withheld (subst (λ (x : Answer). Delivers (outcome number upstream target stream) out x after) e call) .1),
+    λ h. withheld-refused call (told-given h),
+  )
+    where
+      as-told : {v w : Refusal} → RunRefused number upstream target stream (length out) v → refuses v ≡ refuses w
+          → RunRefused number upstream target stream (length out) w
+      as-told {v} {w} h e =
+          let same : v ≡ w = cc in
+          subst (RunRefused number upstream target stream (length out)) same h
+
+      by-run : {g : Given} → RunIs number upstream target stream g → {w : Refusal} → Withheld g (length out) w
+          → RunRefused number upstream target stream (length out) w
+      by-run (unopened o) (refused e) = as-told (opening o) e
+      by-run (unopened o) (exceeds e l) = differ (cc)
+      by-run (over o k) (refused e) = as-told (over-limit o k) e
+      by-run (over o k) (exceeds e l) = differ (cc)
+      by-run (runs o k (at-4 place s)) (refused e) = as-told (no-operation place o k s) e
+      by-run (runs o k (at-4 place s)) (exceeds e l) = differ (cc)
+      by-run (runs o k (at-5 place s)) (refused e) = as-told (no-such-fence place o k s) e
+      by-run (runs o k (at-5 place s)) (exceeds e l) = differ (cc)
+      by-run (runs o k (at-6 place s)) (refused e) = as-told (no-fence-will-do place o k s) e
+      by-run (runs o k (at-6 place s)) (exceeds e l) = differ (cc)
+      by-run (runs o k (puts-out a)) (refused e) = differ (cc)
+      by-run (runs o k (puts-out {output = output} a)) (exceeds {bytes = bytes} e l) =
+          let same : map byteOf output ≡ bytes = cc in
+          too-small o k
+          (record {
+            input = a .input;
+            input-read = a .input-read;
+            input-own = a .input-own;
+            output = output;
+            accepted = a .accepted;
+            exceeds = omega (arith, l, ap length same, length-map output byteOf);
+          })
+
+      given-told : {w : Refusal} → Withheld (outcome number upstream target stream) (length out) w
+          → RunRefused number upstream target stream (length out) w
+      given-told w = by-run (run-is number upstream target stream) w
+
+      told-given : {w : Refusal} → RunRefused number upstream target stream (length out) w
+          → Withheld (outcome number upstream target stream) (length out) w
+      told-given (opening o) = refused (is-run number upstream target stream (unopened o))
+      told-given (over-limit o l) = refused (is-run number upstream target stream (over o l))
+      told-given (no-operation place o l s) = refused (is-run number upstream target stream (runs o l (at-4 place s)))
+      told-given (no-such-fence place o l s) = refused (is-run number upstream target stream (runs o l (at-5 place s)))
+      told-given (no-fence-will-do place o l s) = refused (is-run number upstream target stream (runs o l (at-6 place s)))
+      told-given (too-small o l x) =
+          exceeds (is-run number upstream target stream
+          (runs o l (puts-out (record { input = x .input; input-read = x .input-read; input-own = x .input-own; accepted = x .accepted }))))
+          (omega (arith, x .exceeds, length-map (x .output) byteOf))
