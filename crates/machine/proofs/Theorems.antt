@@ -7,6 +7,7 @@ use mathlib.Core.Logic.{_↔_}
 use mathlib.Core.List.{List, []}
 use native.Mathlib.Omega.{arith}
 use lib.ListN.{length, getD}
+use Rattle.answers.specs.declared.Refusal.{Refusal}
 use Rattle.rule.specs.declared.situation.Situation.{Situation}
 use Rattle.rule.specs.declared.way.Way.{Way}
 use Rattle.rule.specs.declared.way.Shim.{Shim}
@@ -23,7 +24,7 @@ use Rattle.mealy.proofs.Unique.{apart-one, not-more, equal, same-states}
 use Rattle.mealy.proofs.Runs.{same-eq, same-trans, same-sym}
 use Rattle.mealy.proofs.Describing.{starts, lands, run-fresh}
 use Rattle.machine.specs.Shim.{lettersOf, shim}
-use Rattle.machine.specs.Generated.{named, Generated}
+use Rattle.machine.specs.Generated.{Unmade, crowded, overfull, roomless, named, Generated}
 use Rattle.machine.specs.Spoken.{Letters, operations, machineOf, spoken, AnswersLikeTheRule}
 use Rattle.machine.specs.Counted.{SameSituation, SameState, NumberOf, ManySituations, ManyStates, FirstArrival}
 use Rattle.machine.specs.declared.machine.Machine.{Machine}
@@ -181,44 +182,52 @@ module _ (s : Shim) (ups fences : List ℕ) where
 
   module _ (rows : List ℕ) (r : Outcome) (rows′ : List ℕ) (generated : Generated s ups fences rows r rows′) where
     -- The refusal 8 is given exactly when more than 4,096 situations can be reached.
-    pub refused-8-exactly-when : (r ≡ Outcome.Situations) ↔ ManySituations way up target
-    refused-8-exactly-when = (λ e. both .0 (crowded r e generated), λ h. look r generated (both .1 h))
+    pub refused-8-exactly-when : (r ≡ Outcome.Refused Refusal.TooManySituations) ↔ ManySituations way up target
+    refused-8-exactly-when = (λ e. both .0 (many r e generated), λ h. look r generated (both .1 h))
       where
         both : More ruled _≡_ 4096 ↔ ManySituations way up target
         both = many-situations way up target few 4096
 
-        crowded : (o : Outcome) → o ≡ Outcome.Situations → Generated s ups fences rows o rows′
-            → More ruled _≡_ 4096
-        crowded o e g = let c : Generated s ups fences rows Outcome.Situations rows′ = rw e at g in c .many
+        so-many : Unmade ruled rows Refusal.TooManySituations → More ruled _≡_ 4096
+        so-many (crowded h) = h
 
-        look : (o : Outcome) → Generated s ups fences rows o rows′
-            → More ruled _≡_ 4096 → o ≡ Outcome.Situations
+        many : (o : Outcome) → o ≡ Outcome.Refused Refusal.TooManySituations → Generated s ups fences rows o rows′ → More ruled _≡_ 4096
+        many o e g = let c : Generated s ups fences rows (Outcome.Refused Refusal.TooManySituations) rows′ = rw e at g in so-many (c .0)
+
+        refusal : {why : Refusal} → Unmade ruled rows why → More ruled _≡_ 4096 → why ≡ Refusal.TooManySituations
+        refusal (crowded k) h = refl
+        refusal (overfull f k) h = absurd (not-more _ _≡_ equal 4096 f h)
+        refusal (roomless f l d k) h = absurd (not-more _ _≡_ equal 4096 f h)
+
+        look : (o : Outcome) → Generated s ups fences rows o rows′ → More ruled _≡_ 4096 → o ≡ Outcome.Refused Refusal.TooManySituations
         look (Outcome.Made x) g h = absurd (not-more _ _≡_ equal 4096 (g .few-situations) h)
-        look Outcome.Situations g h = refl
-        look Outcome.States g h = absurd (not-more _ _≡_ equal 4096 (g .few-situations) h)
-        look Outcome.Room g h = absurd (not-more _ _≡_ equal 4096 (g .few-situations) h)
+        look (Outcome.Refused why) g h = ap Outcome.Refused (refusal (g .0) h)
 
     -- The refusal 9 is given exactly when the situations are not too many and the states are more than 255.
-    pub refused-9-exactly-when : (r ≡ Outcome.States)
+    pub refused-9-exactly-when : (r ≡ Outcome.Refused Refusal.TooManyStates)
         ↔ ((ManySituations way up target → ⊥) × ManyStates way up target)
-    refused-9-exactly-when = (λ e. overfull r e generated, λ h. look r generated (h .0) (many .1 (h .1)))
+    refused-9-exactly-when = (λ e. states r e generated, λ h. look r generated (h .0) (many .1 (h .1)))
       where
         both : More ruled _≡_ 4096 ↔ ManySituations way up target
         both = many-situations way up target few 4096
 
-        many : More ruled (Same ruled) 255
-            ↔ ManyStates way up target
+        many : More ruled (Same ruled) 255 ↔ ManyStates way up target
         many = many-states way up target few
 
-        overfull : (o : Outcome) → o ≡ Outcome.States → Generated s ups fences rows o rows′
-            → (ManySituations way up target → ⊥) × ManyStates way up target
-        overfull o e g =
-            let c : Generated s ups fences rows Outcome.States rows′ = rw e at g in
-            (λ h. not-more _ _≡_ equal 4096 (c .few-situations) (both .1 h), many .0 (c .many))
+        so-many : Unmade ruled rows Refusal.TooManyStates → (ManySituations way up target → ⊥) × ManyStates way up target
+        so-many (overfull f h) = (λ k. not-more _ _≡_ equal 4096 f (both .1 k), many .0 h)
 
-        look : (o : Outcome) → Generated s ups fences rows o rows′ → (ManySituations way up target → ⊥)
-            → More ruled (Same ruled) 255 → o ≡ Outcome.States
+        states : (o : Outcome) → o ≡ Outcome.Refused Refusal.TooManyStates → Generated s ups fences rows o rows′
+            → (ManySituations way up target → ⊥) × ManyStates way up target
+        states o e g = let c : Generated s ups fences rows (Outcome.Refused Refusal.TooManyStates) rows′ = rw e at g in so-many (c .0)
+
+        refusal : {why : Refusal} → Unmade ruled rows why → (ManySituations way up target → ⊥) → More ruled (Same ruled) 255
+            → why ≡ Refusal.TooManyStates
+        refusal (crowded k) n h = absurd (n (both .0 k))
+        refusal (overfull f k) n h = refl
+        refusal (roomless f l d k) n h = absurd (too-few _ d l h)
+
+        look : (o : Outcome) → Generated s ups fences rows o rows′ → (ManySituations way up target → ⊥) → More ruled (Same ruled) 255
+            → o ≡ Outcome.Refused Refusal.TooManyStates
         look (Outcome.Made x) g n h = absurd (too-few _ (g .states) (g .few-states) h)
-        look Outcome.Situations g n h = absurd (n (both .0 (g .many)))
-        look Outcome.States g n h = refl
-        look Outcome.Room g n h = absurd (too-few _ (g .described) (g .few-states) h)
+        look (Outcome.Refused why) g n h = ap Outcome.Refused (refusal (g .0) n h)
