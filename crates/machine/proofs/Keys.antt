@@ -8,8 +8,8 @@ use native.Mathlib.Decide.{decLt}
 use borrow.Author.Tests.{lt-ltb, le-ltb}
 use Rattle.ground.specs.Bytes.{at}
 use Rattle.operations.specs.Alphabet.{stride}
-use Rattle.mealy.specs.Runs.{refused, taken, Closed}
-use Rattle.mealy.specs.inner.Classes.{classed, Split}
+use Rattle.mealy.specs.Runs.{refused, taken}
+use Rattle.mealy.specs.inner.Classes.{Closed, classed, Split}
 use Rattle.mealy.proofs.Runs.{untaken}
 use Rattle.mealy.proofs.Describing.{numbered-step}
 use Rattle.machine.specs.inner.Words.{answer, row, tabled, seen, key}

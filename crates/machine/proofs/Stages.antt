@@ -1,15 +1,16 @@
 -- From stage to stage of generating: what one finds is what the next is entered with, or is the refusal. Assumes nothing.
 use Prim.Native.Nat.{ℕ, _*_, _≤_, _<_}
-use mathlib.Core.Path.{_≡_, refl}
+use mathlib.Core.Path.{_≡_}
 use mathlib.Core.List.{List}
 use native.Mathlib.Omega.{arith}
 use lib.ListN.{length, replicate, length-replicate}
+use Rattle.answers.specs.declared.Refusal.{Refusal}
 use Rattle.operations.specs.Alphabet.{stride, lettersWith}
 use Rattle.rule.specs.declared.way.Shim.{Shim}
 use Rattle.rule.specs.declared.situation.Situation.{Situation}
 use Rattle.mealy.specs.Runs.{Machine}
 use Rattle.machine.specs.Shim.{shimOf}
-use Rattle.machine.specs.Generated.{named, Crowded, Overfull, Roomless}
+use Rattle.machine.specs.Generated.{named, Unmade, crowded, overfull, roomless}
 use Rattle.machine.specs.inner.Index.{capacity}
 use Rattle.machine.specs.inner.Words.{tabled}
 use Rattle.machine.specs.inner.Refine.{Begun, Refined}
@@ -27,8 +28,9 @@ pub new-table : Unused (replicate 81920 0)
 new-table = record { whole = length-replicate {A = ℕ} 81920 0; blank = zeros-blank 81920 }
 
 -- more situations than there is room for
-pub survey-crowded : {m : Machine Situation ℕ} {table : List ℕ} {r : ℕ} → Surveyed m table r → 4096 < r → (rows : List ℕ) → Crowded m rows rows
-survey-crowded x h rows = record { same = refl; many = too-many (x .ended) h }
+pub survey-crowded : {m : Machine Situation ℕ} {table : List ℕ} {r : ℕ} → Surveyed m table r → 4096 < r → (rows : List ℕ)
+    → Unmade m rows Refusal.TooManySituations
+survey-crowded x h rows = crowded (too-many (x .ended) h)
 
 pub survey-searched : {s : Shim} {ups fences table : List ℕ} {r : ℕ} → Few ups fences → Surveyed (shimOf s ups fences) table r → r ≤ 4096
     → Searched s ups fences table r
@@ -42,9 +44,8 @@ module _ {s : Shim} {ups fences table : List ℕ} {count : ℕ} (x : Searched s 
 
   -- more states than a byte can number
   pub searched-overfull : {classes : List ℕ} {r : ℕ} → Refined (tabled (lettersWith (length ups)) table) count classes r → 255 < r
-      → (rows : List ℕ) → Overfull (shimOf s ups fences) rows rows
-  searched-overfull y h rows =
-      record { same = refl; few-situations = few-situations (x .explored); many = crowd-states (x .explored) (refined-crowd y h) }
+      → (rows : List ℕ) → Unmade (shimOf s ups fences) rows Refusal.TooManyStates
+  searched-overfull y h rows = overfull (few-situations (x .explored)) (crowd-states (x .explored) (refined-crowd y h))
 
   pub searched-sorted : {classes : List ℕ} {r : ℕ} → Refined (tabled (lettersWith (length ups)) table) count classes r → r ≤ 255
       → length classes ≡ capacity → Sorted s ups fences table classes count r
@@ -52,14 +53,5 @@ module _ {s : Shim} {ups fences table : List ℕ} {count : ℕ} (x : Searched s 
 
 -- no room for the rows
 pub sorted-roomless : {s : Shim} {ups fences table classes : List ℕ} {count states : ℕ} → Sorted s ups fences table classes count states
-    → {rows : List ℕ} → length rows < states * stride → Roomless (shimOf s ups fences) rows rows
-sorted-roomless {states = states} x short =
-    record {
-      same = refl;
-      few-situations = few-situations (x .searched .explored);
-      states = states;
-      few-states = x .few-states;
-      row = _;
-      described = described x;
-      short = short;
-    }
+    → {rows : List ℕ} → length rows < states * stride → Unmade (shimOf s ups fences) rows Refusal.BufferTooSmall
+sorted-roomless x short = roomless (few-situations (x .searched .explored)) (x .few-states) (described x) short

@@ -1,13 +1,13 @@
--- The theorems about the machine that is generated, for any two models and any way, as a reader wants to find them: stated on the rule's own runs,
--- `run` and `onward`. A stream of letters is a stream of operations by the alphabet: 0 l, 1 L, 2 s, 3 S, 4 upwards the upstream fences. Assumes
--- nothing.
+-- The theorems about the machine of any two models and any way, as a reader wants to find them: stated on the rule's own runs, `run` and `onward`,
+-- for any rows that describe it, whether they were generated, listed or read from an image. They hold since such rows run like the rule's own machine.
+-- A stream of letters is a stream of operations by the alphabet: 0 l, 1 L, 2 s, 3 S, 4 upwards the upstream fences. Assumes nothing.
 use Prim.Native.Nat.{ℕ, _≤_, _<_}
 use mathlib.Core.Path.{_≡_, refl, sym, _∙_, ap, subst}
 use mathlib.Core.Logic.{_↔_}
 use mathlib.Core.List.{List, []}
 use native.Mathlib.Omega.{arith}
 use lib.ListN.{length, getD}
-use Rattle.operations.specs.Alphabet.{lettersWith}
+use Rattle.answers.specs.declared.Refusal.{Refusal}
 use Rattle.rule.specs.declared.situation.Situation.{Situation}
 use Rattle.rule.specs.declared.way.Way.{Way}
 use Rattle.rule.specs.declared.way.Shim.{Shim}
@@ -15,18 +15,17 @@ use Rattle.rule.specs.Stream.{Stream}
 use Rattle.rule.specs.Pairs.{Model}
 use Rattle.rule.specs.Sides.{upstreamOf, targetOf}
 use Rattle.rule.specs.Rule.{done, onward, run}
-use Rattle.mealy.specs.Runs.{Machine as Mealy, ends, reached, Same, Closed}
+use Rattle.mealy.specs.Runs.{Answer, Machine as Mealy, ends, reached, Same, OnStates}
 use Rattle.mealy.specs.Order.{_≺_}
-use Rattle.mealy.specs.Arrivals.{arrival, More}
+use Rattle.mealy.specs.Arrivals.{arrival, More, Described, numbered}
 use Rattle.mealy.proofs.Pigeonhole.{pigeonhole}
 use Rattle.mealy.proofs.Numbers.{first-without}
 use Rattle.mealy.proofs.Unique.{apart-one, not-more, equal, same-states}
 use Rattle.mealy.proofs.Runs.{same-eq, same-trans, same-sym}
-use Rattle.mealy.proofs.Describing.{starts, lands, run-fresh, ends-within}
-use Rattle.machine.specs.Rows.{answering}
+use Rattle.mealy.proofs.Describing.{starts, lands, run-fresh}
 use Rattle.machine.specs.Shim.{lettersOf, shim}
-use Rattle.machine.specs.Generated.{named, Generated}
-use Rattle.machine.specs.Spoken.{Letters, operations, spelling, machineOf, spoken, AnswersLikeTheRule}
+use Rattle.machine.specs.Generated.{Unmade, crowded, overfull, roomless, named, Generated}
+use Rattle.machine.specs.Spoken.{Letters, operations, machineOf, spoken, AnswersLikeTheRule}
 use Rattle.machine.specs.Counted.{SameSituation, SameState, NumberOf, ManySituations, ManyStates, FirstArrival}
 use Rattle.machine.specs.declared.machine.Machine.{Machine}
 use Rattle.machine.specs.declared.machine.Outcome.{Outcome}
@@ -35,6 +34,113 @@ use Rattle.machine.proofs.Unique.{too-few}
 use Rattle.machine.proofs.Spelling.{ranAs, spoken-gets, ends-spelt}
 use Rattle.machine.proofs.Speaking.{goes-on, shim-like}
 use Rattle.machine.proofs.Counting.{run-accepted, accepted-run, same-state, many-situations, many-states}
+
+-- k states and their rows, which describe the rule's own machine.
+module _ (way : Way) (up target : Model) (few : length (target .fences) ≤ 16) {k : ℕ} {row : ℕ → ℕ → Answer ℕ ℕ}
+    (d : Described (shim way up target) (Same (shim way up target)) k row) where
+  abbrev m : Mealy Situation ℕ
+  m = shim way up target
+
+  abbrev own : Mealy ℕ ℕ
+  own = numbered (lettersOf up) row
+
+  -- an accepted stream leads to a state, and that is the state of its situation
+  lands-at : (v : List ℕ) → Letters (lettersOf up) v → (out : Stream) → run way up target (operations v) ≡ done out
+      → (ends own 0 v < k) × Same m (arrival m (d .streams) (ends own 0 v)) (reached m v)
+  lands-at v h out e =
+      let s = starts m (Same m) d (λ s t r. r) in
+      lands m (Same m) d (λ s t r. r) 0 (s .0) (m .fresh) (same-eq m (ap (reached m) (s .1))) v
+      (run-accepted way up target few v h out e)
+
+  one-state : (i j : ℕ) → i < k → j < k → Same m (arrival m (d .streams) i) (arrival m (d .streams) j) → i ≡ j
+  one-state i j h l s =
+      apart-one m (Same m) (same-states m) (d .streams) (d .first .apart) i j (omega (arith, d .count)) (omega (arith, d .count)) s
+
+  -- The machine's run from state 0 is the rule's run, on every stream of letters: the same output, or the same refusal at the same index.
+  pub runs-like-the-rule : AnswersLikeTheRule way up target (machineOf up row)
+  runs-like-the-rule w h =
+      spoken-gets own 0 w
+      ∙ ap (ranAs w) (run-fresh m (Same m) d (λ s t r. r) w)
+      ∙ sym (spoken-gets m (m .fresh) w)
+      ∙ shim-like way up target few w h
+
+  -- A run from any state is the continuation of any accepted stream that leads there.
+  pub run-from-a-state : (i : ℕ) (v : List ℕ) → Letters (lettersOf up) v → (out : Stream)
+      → run way up target (operations v) ≡ done out → reached (machineOf up row) v ≡ i
+      → (w : List ℕ) → Letters (lettersOf up) w
+      → spoken (machineOf up row) i w ≡ onward way up target (operations v) out (operations w)
+  run-from-a-state i v h out e leads w l =
+      ap (λ (j : ℕ). spoken (machineOf up row) j w) (sym leads)
+      ∙ goes-on way up target (machineOf up row) runs-like-the-rule v h out e w l
+
+  led : (v : List ℕ) → reached (machineOf up row) v ≡ ends own 0 v
+  led v = ends-spelt own 0 v
+
+  -- Every accepted stream leads to a state of the machine.
+  pub leads-to-a-state : (v : List ℕ) → Letters (lettersOf up) v → (out : Stream)
+      → run way up target (operations v) ≡ done out → reached (machineOf up row) v < k
+  leads-to-a-state v h out e = rw (led v) (lands-at v h out e .0)
+
+  -- Two accepted streams lead to the same state exactly when every continuation gets the same further output and refusals.
+  pub same-state-exactly-when : (v w : List ℕ) → Letters (lettersOf up) v → Letters (lettersOf up) w → (out out′ : Stream)
+      → run way up target (operations v) ≡ done out
+      → run way up target (operations w) ≡ done out′
+      → (reached (machineOf up row) v ≡ reached (machineOf up row) w)
+      ↔ SameState way up target (operations v) out (operations w) out′
+  same-state-exactly-when v w h l out out′ e f = (
+    λ s y k. sym (run-from-a-state _ v h out e refl y k) ∙ run-from-a-state _ w l out′ f (sym s) y k,
+    λ s.
+        let p = lands-at v h out e in
+        let q = lands-at w l out′ f in
+        let r = same-state way up target few v w h l out out′ e f .1 s in
+        led v ∙ one-state _ _ (p .0) (q .0) (same-trans m (p .1) (same-trans m r (same-sym m (q .1)))) ∙ sym (led w),
+  )
+
+  -- Every state has its first arrival, and the states are numbered in the order of these: shorter streams first, then by operation.
+  pub numbered-by-first-arrival : (firsts : ℕ → List ℕ) × ((i : ℕ) → i < k → FirstArrival way up target (machineOf up row) i (firsts i))
+      × ((i j : ℕ) → i < j → j < k → firsts i ≺ firsts j)
+  numbered-by-first-arrival = (
+    λ i. getD (d .streams) i [],
+    λ i h.
+        let l : i < length (d .streams) = omega (arith, d .count) in
+        let r = accepted-run way up target few (getD (d .streams) i []) (d .first .accepted i l) in
+        let p = lands-at (getD (d .streams) i []) (r .0) (r .1 .0) (r .1 .1) in
+        record {
+          letters = r .0;
+          out = r .1 .0;
+          accepted = r .1 .1;
+          leads = led (getD (d .streams) i []) ∙ one-state _ i (p .0) h (p .1);
+          first = λ w k out′ e s.
+              let q = lands-at w k out′ e in
+              let c = d .first .covers w (run-accepted way up target few w k out′ e) in
+              let one : c .0 ≡ i
+              = one-state (c .0) (ends own 0 w) (omega (arith, c .1, d .count)) (q .0) (same-trans m (c .2) (same-sym m (q .1)))
+              ∙ sym (led w)
+              ∙ s in
+              rw one at (c .3);
+        },
+    λ i j h l. d .first .rising i j h (omega (arith, d .count)),
+  )
+
+  -- Any machine on j states, of whatever kind they are, that answers like the rule has at least as many states.
+  pub fewest-states : {S : Type 0} (n : Mealy S Stream) (j : ℕ) → OnStates n j → AnswersLikeTheRule way up target n → k ≤ j
+  fewest-states n j on like =
+      let ws = d .streams in
+      let here : (i : ℕ) → i < length ws → Letters (lettersOf up) (getD ws i [])
+      × ((out : Stream) × (run way up target (operations (getD ws i [])) ≡ done out))
+      = λ i h. accepted-run way up target few (getD ws i []) (d .first .accepted i h) in
+      let fits : length ws ≤ j
+      = pigeonhole (length ws) j (λ i h. on .number (reached n (getD ws i []))) (λ i h. on .below (getD ws i []))
+      (λ i l h p lt e.
+      d .first .apart i l lt p
+      (same-state way up target few (getD ws i []) (getD ws l []) (here i h .0) (here l p .0) (here i h .1 .0) (here l p .1 .0)
+      (here i h .1 .1)
+      (here l p .1 .1) .1
+      (λ y r.
+      sym (goes-on way up target n like (getD ws i []) (here i h .0) (here i h .1 .0) (here i h .1 .1) y r)
+      ∙ ap (λ s. spoken n s y) (on .own _ _ e)
+      ∙ goes-on way up target n like (getD ws l []) (here l p .0) (here l p .1 .0) (here l p .1 .1) y r))) in
+      omega (arith, fits, d .count)
 
 -- A shim with the packed tables of each side's fences, of which an operation can name the first sixteen.
 module _ (s : Shim) (ups fences : List ℕ) where
@@ -48,134 +154,19 @@ module _ (s : Shim) (ups fences : List ℕ) where
   target = targetOf s (named fences)
 
   -- the rule's own machine
-  abbrev m : Mealy Situation ℕ
-  m = shim way up target
+  abbrev ruled : Mealy Situation ℕ
+  ruled = shim way up target
 
   few : length (named fences) ≤ 16
   few = at-most-sixteen fences refl
 
   module _ (rows : List ℕ) (x : Machine) (rows′ : List ℕ) (made : Generated s ups fences rows (Outcome.Made x) rows′) where
-    own : Mealy ℕ ℕ
-    own = answering (lettersWith (length (named ups))) rows′
-
-    the-same : machineOf x rows′ ≡ spelling own
-    unfolding own
-    the-same = ap (λ (n : ℕ). spelling (answering (lettersWith n) rows′)) (made .its-ups)
-
-    -- an accepted stream leads to a state, and that is the state of its situation
-    lands-at : (v : List ℕ) → Letters (lettersOf up) v → (out : Stream) → run way up target (operations v) ≡ done out
-        → (ends own 0 v < x .states) × Same m (arrival m (made .states .streams) (ends own 0 v)) (reached m v)
-    unfolding own
-    lands-at v h out e =
-        let s = starts m (Same m) (made .states) (λ s t r. r) in
-        lands m (Same m) (made .states) (λ s t r. r) 0 (s .0) (m .fresh) (same-eq m (ap (reached m) (s .1))) v
-        (run-accepted way up target few v h out e)
-
-    one-state : (i j : ℕ) → i < x .states → j < x .states
-        → Same m (arrival m (made .states .streams) i) (arrival m (made .states .streams) j) → i ≡ j
-    one-state i j h l s =
-        apart-one m (Same m) (same-states m) (made .states .streams) (made .states .first .apart) i j
-        (omega (arith, made .states .count))
-        (omega (arith, made .states .count))
-        s
-
-    -- The machine's run from state 0 is the rule's run, on every stream of letters: the same output, or the same refusal at the same index.
-    pub runs-like-the-rule : AnswersLikeTheRule way up target (machineOf x rows′)
-    unfolding own
-    runs-like-the-rule w h =
-        ap (λ (n : Mealy ℕ Stream). spoken n (n .fresh) w) the-same
-        ∙ spoken-gets own 0 w
-        ∙ ap (ranAs w) (run-fresh m (Same m) (made .states) (λ s t r. r) w)
-        ∙ sym (spoken-gets m (m .fresh) w)
-        ∙ shim-like way up target few w h
-
-    -- A run from any state is the continuation of any accepted stream that leads there.
-    pub run-from-a-state : (i : ℕ) (v : List ℕ) → Letters (lettersOf up) v → (out : Stream)
-        → run way up target (operations v) ≡ done out → reached (machineOf x rows′) v ≡ i
-        → (w : List ℕ) → Letters (lettersOf up) w
-        → spoken (machineOf x rows′) i w ≡ onward way up target (operations v) out (operations w)
-    run-from-a-state i v h out e leads w l =
-        ap (λ (j : ℕ). spoken (machineOf x rows′) j w) (sym leads)
-        ∙ goes-on way up target (machineOf x rows′) runs-like-the-rule v h out e w l
-
-    led : (v : List ℕ) → reached (machineOf x rows′) v ≡ ends own 0 v
-    unfolding own
-    led v = ap (λ (n : Mealy ℕ Stream). ends n (n .fresh) v) the-same ∙ ends-spelt own 0 v
-
-    -- Every accepted stream leads to a state of the machine.
-    pub leads-to-a-state : (v : List ℕ) → Letters (lettersOf up) v → (out : Stream)
-        → run way up target (operations v) ≡ done out → reached (machineOf x rows′) v < x .states
-    leads-to-a-state v h out e = rw (led v) (lands-at v h out e .0)
-
-    -- Two accepted streams lead to the same state exactly when every continuation gets the same further output and refusals.
-    pub same-state-exactly-when : (v w : List ℕ) → Letters (lettersOf up) v → Letters (lettersOf up) w → (out out′ : Stream)
-        → run way up target (operations v) ≡ done out
-        → run way up target (operations w) ≡ done out′
-        → (reached (machineOf x rows′) v ≡ reached (machineOf x rows′) w)
-        ↔ SameState way up target (operations v) out (operations w) out′
-    same-state-exactly-when v w h l out out′ e f = (
-      λ s y k. sym (run-from-a-state _ v h out e refl y k) ∙ run-from-a-state _ w l out′ f (sym s) y k,
-      λ s.
-          let p = lands-at v h out e in
-          let q = lands-at w l out′ f in
-          let r = same-state way up target few v w h l out out′ e f .1 s in
-          led v ∙ one-state _ _ (p .0) (q .0) (same-trans m (p .1) (same-trans m r (same-sym m (q .1)))) ∙ sym (led w),
-    )
-
-    -- Every state has its first arrival, and the states are numbered in the order of these: shorter streams first, then by operation.
-    pub numbered-by-first-arrival : (firsts : ℕ → List ℕ) × ((i : ℕ) → i < x .states → FirstArrival way up target (machineOf x rows′) i (firsts i))
-        × ((i j : ℕ) → i < j → j < x .states → firsts i ≺ firsts j)
-    unfolding own
-    numbered-by-first-arrival = (
-      λ i. getD (made .states .streams) i [],
-      λ i h.
-          let l : i < length (made .states .streams) = omega (arith, made .states .count) in
-          let r = accepted-run way up target few (getD (made .states .streams) i []) (made .states .first .accepted i l) in
-          let p = lands-at (getD (made .states .streams) i []) (r .0) (r .1 .0) (r .1 .1) in
-          record {
-            letters = r .0;
-            out = r .1 .0;
-            accepted = r .1 .1;
-            leads = led (getD (made .states .streams) i []) ∙ one-state _ i (p .0) h (p .1);
-            first = λ w k out′ e s.
-                let q = lands-at w k out′ e in
-                let c = made .states .first .covers w (run-accepted way up target few w k out′ e) in
-                let one : c .0 ≡ i
-                = one-state (c .0) (ends own 0 w) (omega (arith, c .1, made .states .count)) (q .0) (same-trans m (c .2) (same-sym m (q .1)))
-                ∙ sym (led w)
-                ∙ s in
-                rw one at (c .3);
-          },
-      λ i j h l. made .states .first .rising i j h (omega (arith, made .states .count)),
-    )
-
-    -- Any machine on k states that answers like the rule has at least as many states.
-    pub fewest-states : (n : Mealy ℕ Stream) (k : ℕ) → n .fresh < k → Closed n k
-        → AnswersLikeTheRule way up target n → x .states ≤ k
-    fewest-states n k p c like =
-        let ws = made .states .streams in
-        let here : (i : ℕ) → i < length ws → Letters (lettersOf up) (getD ws i [])
-        × ((out : Stream) × (run way up target (operations (getD ws i [])) ≡ done out))
-        = λ i h. accepted-run way up target few (getD ws i []) (made .states .first .accepted i h) in
-        let fits : length ws ≤ k
-        = pigeonhole (length ws) k (λ i h. reached n (getD ws i [])) (λ i h. ends-within n k c (n .fresh) p (getD ws i []))
-        (λ i j h l lt e.
-        made .states .first .apart i j lt l
-        (same-state way up target few (getD ws i []) (getD ws j []) (here i h .0) (here j l .0) (here i h .1 .0) (here j l .1 .0)
-        (here i h .1 .1)
-        (here j l .1 .1) .1
-        (λ y r.
-        sym (goes-on way up target n like (getD ws i []) (here i h .0) (here i h .1 .0) (here i h .1 .1) y r)
-        ∙ ap (λ (s : ℕ). spoken n s y) e
-        ∙ goes-on way up target n like (getD ws j []) (here j l .0) (here j l .1 .0) (here j l .1 .1) y r))) in
-        omega (arith, fits, made .states .count)
-
     situations-are : NumberOf (x .situations) way up target (SameSituation up target)
     situations-are =
         record {
           more = λ k h. many-situations way up target few k .0 (made .situations .more k h);
           no-more = λ h.
-              not-more m _≡_ equal (x .situations) (made .situations .at-most)
+              not-more ruled _≡_ equal (x .situations) (made .situations .at-most)
               (many-situations way up target few (x .situations) .1 h);
         }
 
@@ -191,44 +182,52 @@ module _ (s : Shim) (ups fences : List ℕ) where
 
   module _ (rows : List ℕ) (r : Outcome) (rows′ : List ℕ) (generated : Generated s ups fences rows r rows′) where
     -- The refusal 8 is given exactly when more than 4,096 situations can be reached.
-    pub refused-8-exactly-when : (r ≡ Outcome.Situations) ↔ ManySituations way up target
-    refused-8-exactly-when = (λ e. both .0 (crowded r e generated), λ h. look r generated (both .1 h))
+    pub refused-8-exactly-when : (r ≡ Outcome.Refused Refusal.TooManySituations) ↔ ManySituations way up target
+    refused-8-exactly-when = (λ e. both .0 (many r e generated), λ h. look r generated (both .1 h))
       where
-        both : More m _≡_ 4096 ↔ ManySituations way up target
+        both : More ruled _≡_ 4096 ↔ ManySituations way up target
         both = many-situations way up target few 4096
 
-        crowded : (o : Outcome) → o ≡ Outcome.Situations → Generated s ups fences rows o rows′
-            → More m _≡_ 4096
-        crowded o e g = let c : Generated s ups fences rows Outcome.Situations rows′ = rw e at g in c .many
+        so-many : Unmade ruled rows Refusal.TooManySituations → More ruled _≡_ 4096
+        so-many (crowded h) = h
 
-        look : (o : Outcome) → Generated s ups fences rows o rows′
-            → More m _≡_ 4096 → o ≡ Outcome.Situations
+        many : (o : Outcome) → o ≡ Outcome.Refused Refusal.TooManySituations → Generated s ups fences rows o rows′ → More ruled _≡_ 4096
+        many o e g = let c : Generated s ups fences rows (Outcome.Refused Refusal.TooManySituations) rows′ = rw e at g in so-many (c .0)
+
+        refusal : {why : Refusal} → Unmade ruled rows why → More ruled _≡_ 4096 → why ≡ Refusal.TooManySituations
+        refusal (crowded k) h = refl
+        refusal (overfull f k) h = absurd (not-more _ _≡_ equal 4096 f h)
+        refusal (roomless f l d k) h = absurd (not-more _ _≡_ equal 4096 f h)
+
+        look : (o : Outcome) → Generated s ups fences rows o rows′ → More ruled _≡_ 4096 → o ≡ Outcome.Refused Refusal.TooManySituations
         look (Outcome.Made x) g h = absurd (not-more _ _≡_ equal 4096 (g .few-situations) h)
-        look Outcome.Situations g h = refl
-        look Outcome.States g h = absurd (not-more _ _≡_ equal 4096 (g .few-situations) h)
-        look Outcome.Room g h = absurd (not-more _ _≡_ equal 4096 (g .few-situations) h)
+        look (Outcome.Refused why) g h = ap Outcome.Refused (refusal (g .0) h)
 
     -- The refusal 9 is given exactly when the situations are not too many and the states are more than 255.
-    pub refused-9-exactly-when : (r ≡ Outcome.States)
+    pub refused-9-exactly-when : (r ≡ Outcome.Refused Refusal.TooManyStates)
         ↔ ((ManySituations way up target → ⊥) × ManyStates way up target)
-    refused-9-exactly-when = (λ e. overfull r e generated, λ h. look r generated (h .0) (many .1 (h .1)))
+    refused-9-exactly-when = (λ e. states r e generated, λ h. look r generated (h .0) (many .1 (h .1)))
       where
-        both : More m _≡_ 4096 ↔ ManySituations way up target
+        both : More ruled _≡_ 4096 ↔ ManySituations way up target
         both = many-situations way up target few 4096
 
-        many : More m (Same m) 255
-            ↔ ManyStates way up target
+        many : More ruled (Same ruled) 255 ↔ ManyStates way up target
         many = many-states way up target few
 
-        overfull : (o : Outcome) → o ≡ Outcome.States → Generated s ups fences rows o rows′
-            → (ManySituations way up target → ⊥) × ManyStates way up target
-        overfull o e g =
-            let c : Generated s ups fences rows Outcome.States rows′ = rw e at g in
-            (λ h. not-more _ _≡_ equal 4096 (c .few-situations) (both .1 h), many .0 (c .many))
+        so-many : Unmade ruled rows Refusal.TooManyStates → (ManySituations way up target → ⊥) × ManyStates way up target
+        so-many (overfull f h) = (λ k. not-more _ _≡_ equal 4096 f (both .1 k), many .0 h)
 
-        look : (o : Outcome) → Generated s ups fences rows o rows′ → (ManySituations way up target → ⊥)
-            → More m (Same m) 255 → o ≡ Outcome.States
+        states : (o : Outcome) → o ≡ Outcome.Refused Refusal.TooManyStates → Generated s ups fences rows o rows′
+            → (ManySituations way up target → ⊥) × ManyStates way up target
+        states o e g = let c : Generated s ups fences rows (Outcome.Refused Refusal.TooManyStates) rows′ = rw e at g in so-many (c .0)
+
+        refusal : {why : Refusal} → Unmade ruled rows why → (ManySituations way up target → ⊥) → More ruled (Same ruled) 255
+            → why ≡ Refusal.TooManyStates
+        refusal (crowded k) n h = absurd (n (both .0 k))
+        refusal (overfull f k) n h = refl
+        refusal (roomless f l d k) n h = absurd (too-few _ d l h)
+
+        look : (o : Outcome) → Generated s ups fences rows o rows′ → (ManySituations way up target → ⊥) → More ruled (Same ruled) 255
+            → o ≡ Outcome.Refused Refusal.TooManyStates
         look (Outcome.Made x) g n h = absurd (too-few _ (g .states) (g .few-states) h)
-        look Outcome.Situations g n h = absurd (n (both .0 (g .many)))
-        look Outcome.States g n h = refl
-        look Outcome.Room g n h = absurd (too-few _ (g .described) (g .few-states) h)
+        look (Outcome.Refused why) g n h = ap Outcome.Refused (refusal (g .0) n h)

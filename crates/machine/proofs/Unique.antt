@@ -9,6 +9,7 @@ use borrow.Author.Tests.{ne-eqb}
 use lib.ListN.{length}
 use lib.Seq.{ext-getD}
 use Rattle.ground.specs.Bytes.{at}
+use Rattle.answers.specs.declared.Refusal.{Refusal}
 use Rattle.operations.specs.Alphabet.{lettersWith, stride}
 use Rattle.rule.specs.declared.situation.Situation.{Situation}
 use Rattle.rule.specs.declared.way.Way.{Way}
@@ -19,7 +20,7 @@ use Rattle.mealy.proofs.Runs.{untaken}
 use Rattle.mealy.proofs.Unique.{equal, same-states, not-more, described-at-most, exactly-unique, described-unique}
 use Rattle.machine.specs.Rows.{decoded, answerAt}
 use Rattle.machine.specs.Shim.{shimOf}
-use Rattle.machine.specs.Generated.{ProperWord, refusing, passing, Making, Roomless, Built, named, Generated}
+use Rattle.machine.specs.Generated.{ProperWord, refusing, passing, Making, Unmade, crowded, overfull, roomless, Built, named, Generated}
 use Rattle.machine.specs.declared.machine.Machine.{Machine}
 use Rattle.machine.specs.declared.machine.Outcome.{Outcome}
 use Rattle.machine.proofs.Zeros.{at-most-sixteen}
@@ -47,10 +48,6 @@ too-few m d low more =
     not-more m (Same m) (same-states m) 255 (described-at-most m (Same m) (same-states m) d 255 low) more
 
 module _ (m : Mealy Situation ℕ) (way : Way) (ups targets : ℕ) (letters : m .letters ≡ lettersWith ups) (few : targets ≤ 16) (rows : List ℕ) where
-  too-short : {x : Machine} {rows₁ rows₂ : List ℕ} → Making m way ups targets rows x rows₁ → Roomless m rows rows₂ → ⊥
-  too-short {x} {rows₁} b c =
-      omega (arith, described-unique m (Same m) (same-states m) (b .states) (c .described) .0, b .room, c .short)
-
   module _ {x y : Machine} {rows₁ rows₂ : List ℕ} (b : Making m way ups targets rows x rows₁) (c : Making m way ups targets rows y rows₂) where
     one : (x .states ≡ y .states) × ((q a : ℕ) → q < x .states → a < m .letters → answerAt rows₁ q a ≡ answerAt rows₂ q a)
     one = described-unique m (Same m) (same-states m) (b .states) (c .states)
@@ -87,24 +84,30 @@ module _ (m : Mealy Situation ℕ) (way : Way) (ups targets : ℕ) (letters : m 
           targets = (b .its-targets ∙ sym (c .its-targets)) i;
         }
 
+  -- a refusal excludes a machine, and each refusal the others
+  not-both : {x : Machine} {why : Refusal} {rows₁ : List ℕ} → Making m way ups targets rows x rows₁ → Unmade m rows why → ⊥
+  not-both b (crowded h) = not-more m _≡_ equal 4096 (b .few-situations) h
+  not-both b (overfull f h) = too-few m (b .states) (b .few-states) h
+  not-both b (roomless f l d h) =
+      omega (arith, described-unique m (Same m) (same-states m) (b .states) d .0, b .room, h)
+
+  unmade-one : {why other : Refusal} → Unmade m rows why → Unmade m rows other → why ≡ other
+  unmade-one (crowded h) (crowded k) = refl
+  unmade-one (crowded h) (overfull f k) = absurd (not-more m _≡_ equal 4096 f h)
+  unmade-one (crowded h) (roomless f l d k) = absurd (not-more m _≡_ equal 4096 f h)
+  unmade-one (overfull f h) (crowded k) = absurd (not-more m _≡_ equal 4096 f k)
+  unmade-one (overfull f h) (overfull e k) = refl
+  unmade-one (overfull f h) (roomless e l d k) = absurd (too-few m d l h)
+  unmade-one (roomless f l d h) (crowded k) = absurd (not-more m _≡_ equal 4096 f k)
+  unmade-one (roomless f l d h) (overfull e k) = absurd (too-few m d l k)
+  unmade-one (roomless f l d h) (roomless e n c k) = refl
+
   built-unique : (r s : Outcome) {rows₁ rows₂ : List ℕ} → Built m way ups targets rows r rows₁ → Built m way ups targets rows s rows₂
       → (r ≡ s) × (rows₁ ≡ rows₂)
   built-unique (Outcome.Made x) (Outcome.Made y) b c = (ap Outcome.Made (machine-one b c), rows-one b c)
-  built-unique (Outcome.Made x) Outcome.Situations b c = absurd (not-more m _≡_ equal 4096 (b .few-situations) (c .many))
-  built-unique (Outcome.Made x) Outcome.States b c = absurd (too-few m (b .states) (b .few-states) (c .many))
-  built-unique (Outcome.Made x) Outcome.Room b c = absurd (too-short b c)
-  built-unique Outcome.Situations (Outcome.Made y) b c = absurd (not-more m _≡_ equal 4096 (c .few-situations) (b .many))
-  built-unique Outcome.Situations Outcome.Situations b c = (refl, b .same ∙ sym (c .same))
-  built-unique Outcome.Situations Outcome.States b c = absurd (not-more m _≡_ equal 4096 (c .few-situations) (b .many))
-  built-unique Outcome.Situations Outcome.Room b c = absurd (not-more m _≡_ equal 4096 (c .few-situations) (b .many))
-  built-unique Outcome.States (Outcome.Made y) b c = absurd (too-few m (c .states) (c .few-states) (b .many))
-  built-unique Outcome.States Outcome.Situations b c = absurd (not-more m _≡_ equal 4096 (b .few-situations) (c .many))
-  built-unique Outcome.States Outcome.States b c = (refl, b .same ∙ sym (c .same))
-  built-unique Outcome.States Outcome.Room b c = absurd (too-few m (c .described) (c .few-states) (b .many))
-  built-unique Outcome.Room (Outcome.Made y) b c = absurd (too-short c b)
-  built-unique Outcome.Room Outcome.Situations b c = absurd (not-more m _≡_ equal 4096 (b .few-situations) (c .many))
-  built-unique Outcome.Room Outcome.States b c = absurd (too-few m (b .described) (b .few-states) (c .many))
-  built-unique Outcome.Room Outcome.Room b c = (refl, b .same ∙ sym (c .same))
+  built-unique (Outcome.Made x) (Outcome.Refused why) b c = absurd (not-both b (c .0))
+  built-unique (Outcome.Refused why) (Outcome.Made y) b c = absurd (not-both c (b .0))
+  built-unique (Outcome.Refused why) (Outcome.Refused other) b c = (ap Outcome.Refused (unmade-one (b .0) (c .0)), b .1 ∙ sym (c .1))
 
 -- Two outcomes with their rows that generating allows for the same shim, fences and rows are one.
 pub generated-unique : (s : Shim) (ups fences rows : List ℕ) (r q : Outcome) {rows₁ rows₂ : List ℕ}

@@ -6,6 +6,7 @@ use mathlib.Core.Logic.{_⊎_}
 use mathlib.Core.List.{List}
 use lib.ListN.{length, take}
 use Rattle.ground.specs.Bytes.{at}
+use Rattle.answers.specs.declared.Refusal.{Refusal}
 use Rattle.operations.specs.Alphabet.{lettersWith, stride}
 use Rattle.rule.specs.declared.situation.Situation.{Situation}
 use Rattle.rule.specs.declared.way.Way.{Way}
@@ -38,31 +39,17 @@ pub record Making (m : Mealy Situation ℕ) (way : Way) (ups targets : ℕ) (row
   pub absent : (q a : ℕ) → q < x .states → lettersWith ups ≤ a → a < stride → at rows′ (q * stride + a) ≡ 0
   pub kept : (p : ℕ) → x .states * stride ≤ p → at rows′ p ≡ at rows p
 
--- refused: and nothing is written
-pub record Crowded (m : Mealy Situation ℕ) (rows rows′ : List ℕ) : Type 0 where
-  pub same : rows′ ≡ rows
-  pub many : More m _≡_ 4096
+-- no machine is made, by the refusal: these three and no other
+pub data Unmade (m : Mealy Situation ℕ) (rows : List ℕ) : Refusal → Type 0 where
+  crowded : More m _≡_ 4096 → Unmade m rows Refusal.TooManySituations
+  overfull : AtMost m _≡_ 4096 → More m (Same m) 255 → Unmade m rows Refusal.TooManyStates
+  roomless : {k : ℕ} {row : ℕ → ℕ → Answer ℕ ℕ} → AtMost m _≡_ 4096 → k ≤ 255 → Described m (Same m) k row → length rows < k * stride
+      → Unmade m rows Refusal.BufferTooSmall
 
-pub record Overfull (m : Mealy Situation ℕ) (rows rows′ : List ℕ) : Type 0 where
-  pub same : rows′ ≡ rows
-  pub few-situations : AtMost m _≡_ 4096
-  pub many : More m (Same m) 255
-
-pub record Roomless (m : Mealy Situation ℕ) (rows rows′ : List ℕ) : Type 0 where
-  pub same : rows′ ≡ rows
-  pub few-situations : AtMost m _≡_ 4096
-  pub states : ℕ
-  pub few-states : states ≤ 255
-  pub row : ℕ → ℕ → Answer ℕ ℕ
-  pub described : Described m (Same m) states row
-  pub short : length rows < states * stride
-
--- what becomes of the rows, by the outcome
+-- what becomes of the rows, by the outcome; a refusal writes nothing
 abbrev pub Built : Mealy Situation ℕ → Way → ℕ → ℕ → List ℕ → Outcome → List ℕ → Type 0
 Built m way ups targets rows (Outcome.Made x) rows′ = Making m way ups targets rows x rows′
-Built m way ups targets rows Outcome.Situations rows′ = Crowded m rows rows′
-Built m way ups targets rows Outcome.States rows′ = Overfull m rows rows′
-Built m way ups targets rows Outcome.Room rows′ = Roomless m rows rows′
+Built m way ups targets rows (Outcome.Refused why) rows′ = Unmade m rows why × (rows′ ≡ rows)
 
 -- an operation names sixteen fences at most: the first sixteen count
 abbrev pub named : List ℕ → List ℕ

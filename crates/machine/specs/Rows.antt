@@ -6,8 +6,7 @@ use mathlib.Core.List.{List}
 use lib.Dec.{eqb}
 use Rattle.ground.specs.Bytes.{at}
 use Rattle.operations.specs.Alphabet.{stride}
-use Rattle.mealy.specs.Runs.{Answer, refused, taken, Machine}
-use Rattle.mealy.specs.Arrivals.{numbered}
+use Rattle.mealy.specs.Runs.{Answer, refused, taken}
 
 -- what a word says
 abbrev pub decoded : ℕ → Answer ℕ ℕ
@@ -16,7 +15,3 @@ decoded w = cond (eqb (w / 256) 254) refused (taken (w / 256) (w % 256))
 -- the answer at a state to a letter
 abbrev pub answerAt : List ℕ → ℕ → ℕ → Answer ℕ ℕ
 answerAt rows i a = decoded (at rows (i * stride + a))
-
--- the machine that rows over n letters are
-abbrev pub answering : ℕ → List ℕ → Machine ℕ ℕ
-answering n rows = numbered n (answerAt rows)

@@ -5,15 +5,14 @@ use mathlib.Core.Path.{_≡_, ap}
 use mathlib.Core.Bool.{cond}
 use mathlib.Core.List.{List, [], _∷_, _++_, map}
 use lib.Dec.{ltb, eqb}
-use Rattle.operations.specs.Alphabet.{accessLetters, lettersWith, kindOf, operationOf}
+use Rattle.operations.specs.Alphabet.{accessLetters, kindOf, operationOf}
 use Rattle.rule.specs.declared.way.Way.{Way}
 use Rattle.rule.specs.Stream.{Stream, access, fence}
 use Rattle.rule.specs.Pairs.{Model}
 use Rattle.rule.specs.Rule.{Ran, done, refused as stopped, behind, run}
 use Rattle.mealy.specs.Runs.{Answer, refused, taken, Machine as Mealy}
-use Rattle.machine.specs.declared.machine.Machine.{Machine}
+use Rattle.mealy.specs.Arrivals.{numbered}
 use Rattle.machine.specs.Shim.{lettersOf}
-use Rattle.machine.specs.Rows.{answering}
 
 -- a stream of letters of an alphabet of n, and its operations
 abbrev pub Letters : ℕ → List ℕ → Type 0
@@ -41,9 +40,9 @@ spelling m =
       fresh = m .fresh;
     }
 
--- the machine that is made, by its numbers and its rows, started at state 0; its outputs are streams
-abbrev pub machineOf : Machine → List ℕ → Mealy ℕ Stream
-machineOf x rows = spelling (answering (lettersWith (x .ups)) rows)
+-- the machine that rows over the letters of an upstream model are, started at state 0; its outputs are streams
+abbrev pub machineOf : Model → (ℕ → ℕ → Answer ℕ ℕ) → Mealy ℕ Stream
+machineOf up row = spelling (numbered (lettersOf up) row)
 
 -- the run of a stream of letters by a machine that puts out streams, from one of its states
 abbrev pub say : {S : Type 0} → Answer Stream S → (S → Ran) → Ran

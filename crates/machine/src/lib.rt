@@ -12,6 +12,7 @@ ghost use Rattle.machine.specs.Generated.{Generated};
 ghost use Rattle.machine.specs.inner.Stages.{Few, Makes, Unused, Searched, Sorted};
 use crate::machine::Machine;
 use crate::machine::Outcome;
+use answers::Refusal;
 use operations::alphabet::ACCESSES;
 use operations::alphabet::STRIDE;
 use rule::way;
@@ -42,7 +43,7 @@ fn write<'a>(
     ensures { λ r. ⌜ Makes shim (now (ups .entry)) (now (fences .entry)) (now (rows .entry)) r (now (rows .exit)) ⌝ }
 {
     if rows.len() < states * STRIDE {
-        return Outcome::Room;
+        return Outcome::Refused(Refusal::BufferTooSmall);
     }
     let way = shim.way;
     rows::write_rows(table, classes, rows, ACCESSES + ups.len(), count, states);
@@ -70,7 +71,7 @@ fn sort<'a>(
     let mut classes = [0u8; 4096];
     let states = refine::refine(table, &mut classes, count, ACCESSES + ups.len());
     if 255 < states {
-        return Outcome::States;
+        return Outcome::Refused(Refusal::TooManyStates);
     }
     write(shim, ups, fences, table, &classes, count, states, rows)
 }
@@ -88,7 +89,7 @@ fn search<'a>(
 {
     let count = explore::explore(shim, ups, fences, table);
     if 4096 < count {
-        return Outcome::Situations;
+        return Outcome::Refused(Refusal::TooManySituations);
     }
     sort(shim, ups, fences, table, count, rows)
 }

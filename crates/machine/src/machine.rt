@@ -1,3 +1,5 @@
+use answers::Refusal;
+
 // A machine's numbers. Its rows stand in an array of their own: a word for each state and letter, at a stride of 20, which is 256 times the fence
 // byte (a target fence's number, 255 none, 254 refused) and the next state.
 pub struct Machine {
@@ -12,10 +14,6 @@ pub struct Machine {
 
 pub enum Outcome {
     Made(Machine),
-    // More than 4,096 situations: refusal 8.
-    Situations,
-    // More than 255 states: refusal 9.
-    States,
-    // The rows do not fit: refusal 7.
-    Room,
+    // More than 4,096 situations, else more than 255 states, else rows that do not fit.
+    Refused(Refusal),
 }

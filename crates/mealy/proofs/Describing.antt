@@ -1,13 +1,14 @@
--- A described machine runs like the machine that it describes: from each of its states, and from state 0 on every stream. Assumes nothing.
+-- A described machine runs like the machine that it describes: from each of its states, and from state 0 on every stream; and it is described by
+-- what its rows are at its states and letters alone. Assumes nothing.
 use Prim.Native.Nat.{ℕ, _<_}
-use mathlib.Core.Path.{_≡_, refl, sym, _∙_, ap}
+use mathlib.Core.Path.{_≡_, refl, sym, _∙_, ap, subst}
 use mathlib.Core.Logic.{⊎-elim}
 use mathlib.Core.List.{List, [], _∷_}
 use native.Mathlib.Omega.{arith}
 use native.Mathlib.Decide.{decLt}
 use borrow.Author.Tests.{lt-ltb}
 use lib.ListN.{getD}
-use Rattle.mealy.specs.Runs.{Answer, refused, taken, Machine, preceded, gets, go, ends, AcceptedFrom, reached, Same, Closed}
+use Rattle.mealy.specs.Runs.{Answer, refused, taken, Machine, preceded, gets, ends, AcceptedFrom, reached, Same}
 use Rattle.mealy.specs.Arrivals.{arrival, Entry, Described, numbered}
 use Rattle.mealy.proofs.Order.{below-nil, at-most-nil}
 use Rattle.mealy.proofs.Runs.{untaken, same-trans, same-refused, same-taken, first-taken}
@@ -85,10 +86,13 @@ module _ {S O : Type 0} (m : Machine S O) (R : S → S → Type 0) {k : ℕ} {ro
     pub run-fresh : (w : List ℕ) → gets machine 0 w ≡ gets m (m .fresh) w
     run-fresh w = run-from 0 (starts .0) w ∙ ap (λ (v : List ℕ). gets m (reached m v) w) (starts .1)
 
-pub ends-within : {O : Type 0} (n : Machine ℕ O) (k : ℕ) → Closed n k → (i : ℕ) → i < k → (w : List ℕ) → ends n i w < k
-ends-within n k c i p [] = p
-ends-within {O} n k c i p (a ∷ w) = look (λ j q. ends-within n k c j q w) (n .step i a) refl
-  where
-    look : ((j : ℕ) → j < k → ends n j w < k) → (x : Answer O ℕ) → n .step i a ≡ x → go x i (λ j. ends n j w) < k
-    look ih refused e = p
-    look ih (taken o j) e = ih j (c .stays i a o j p e)
+-- rows that agree at every state and letter describe the same machine
+pub described-as : {S O : Type 0} {m : Machine S O} {R : S → S → Type 0} {k : ℕ} {row other : ℕ → ℕ → Answer O ℕ} → Described m R k row
+    → ((i a : ℕ) → i < k → a < m .letters → row i a ≡ other i a) → Described m R k other
+described-as {m = m} {R} d agree =
+    record {
+      streams = d .streams;
+      first = d .first;
+      count = d .count;
+      rows = λ i a p q. subst (Entry m R (d .streams) i a) (agree i a p q) (d .rows i a p q);
+    }

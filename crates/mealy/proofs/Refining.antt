@@ -7,8 +7,8 @@ use mathlib.Core.List.{List, [], _∷_}
 use native.Mathlib.Omega.{arith}
 use native.Mathlib.Nat.{add-zero, zero-add}
 use native.Mathlib.Decide.{decLt}
-use Rattle.mealy.specs.Runs.{Answer, refused, taken, Machine, gets, Closed}
-use Rattle.mealy.specs.inner.Classes.{Numbering, classed, Coarse, Stable, Split, Round, States}
+use Rattle.mealy.specs.Runs.{Answer, refused, taken, Machine, gets}
+use Rattle.mealy.specs.inner.Classes.{Numbering, Closed, classed, Coarse, Stable, Split, Round, States}
 use Rattle.mealy.proofs.Runs.{untaken, same-refused, same-taken}
 use Rattle.mealy.proofs.Numbers.{order, split-last}
 

@@ -7,10 +7,10 @@ use mathlib.Core.List.{List, [], _∷_, _++_}
 use native.Mathlib.Omega.{arith}
 use lib.ListN.{length, getD, length-append, List·getD-append}
 use lib.Seq.{getD-at}
-use Rattle.mealy.specs.Runs.{Answer, refused, taken, Machine, gets, Same, Closed}
+use Rattle.mealy.specs.Runs.{Answer, refused, taken, Machine, gets, Same}
 use Rattle.mealy.specs.Order.{_≼_}
 use Rattle.mealy.specs.Arrivals.{arrival, Apart, AllAccepted, More, Entry, Described, numbered}
-use Rattle.mealy.specs.inner.Classes.{Numbering, classed, Coarse, States}
+use Rattle.mealy.specs.inner.Classes.{Numbering, Closed, classed, Coarse, States}
 use Rattle.mealy.proofs.Order.{at-most-trans}
 use Rattle.mealy.proofs.Runs.{untaken, same-eq, same-trans}
 use Rattle.mealy.proofs.Numbers.{order}

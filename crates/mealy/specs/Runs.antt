@@ -66,6 +66,8 @@ reached m w = ends m (m .fresh) w
 pub record Same {S O : Type 0} (m : Machine S O) (s t : S) : Type 0 where
   pub same : (w : List ℕ) → gets m s w ≡ gets m t w
 
--- no step leads out of the k situations
-pub record Closed {O : Type 0} (m : Machine ℕ O) (k : ℕ) : Type 0 where
-  pub stays : (i a : ℕ) (o : O) (j : ℕ) → i < k → m .step i a ≡ taken o j → j < k
+-- a machine on k states, of whatever kind they are: the states that streams lead to can be numbered below k, no two states by one number
+pub record OnStates {S O : Type 0} (m : Machine S O) (k : ℕ) : Type 0 where
+  pub number : S → ℕ
+  pub below : (w : List ℕ) → number (reached m w) < k
+  pub own : (s t : S) → number s ≡ number t → s ≡ t

@@ -6,8 +6,8 @@ use mathlib.Core.List.{List}
 use lib.ListN.{length}
 use Rattle.ground.specs.Bytes.{at}
 use Rattle.operations.specs.Alphabet.{stride}
-use Rattle.mealy.specs.Runs.{Machine, Closed}
-use Rattle.mealy.specs.inner.Classes.{Numbering, Coarse, Round, States}
+use Rattle.mealy.specs.Runs.{Machine}
+use Rattle.mealy.specs.inner.Classes.{Numbering, Closed, Coarse, Round, States}
 use Rattle.machine.specs.inner.Index.{capacity}
 
 -- two things have one class exactly where they have one key

@@ -10,6 +10,10 @@ pub record Numbering (k : ℕ) (class : ℕ → ℕ) (n : ℕ) : Type 0 where
   pub firsts : ℕ → ℕ
   pub first : (q : ℕ) → q < n → (firsts q < k) × (class (firsts q) ≡ q) × ((j : ℕ) → j < firsts q → class j < q)
 
+-- no step leads out of the k situations
+pub record Closed {O : Type 0} (m : Machine ℕ O) (k : ℕ) : Type 0 where
+  pub stays : (i a : ℕ) (o : O) (j : ℕ) → i < k → m .step i a ≡ taken o j → j < k
+
 -- an answer with the class of its target in the target's place
 abbrev pub classed : {O : Type 0} → (ℕ → ℕ) → Answer O ℕ → Answer O ℕ
 classed class refused = refused
