@@ -11,7 +11,7 @@ use Rattle.ground.proofs.Truths.{differ, true-false}
 use Rattle.answers.specs.declared.Refusal.{Refusal}
 use Rattle.answers.specs.Given.{gives}
 use Rattle.operations.specs.declared.Kind.{Kind}
-use Rattle.operations.specs.Operation.{byteOf}
+use Rattle.operations.specs.Operation.{byteOf, fenceBytes}
 use Rattle.rule.specs.declared.way.Way.{Way}
 use Rattle.rule.specs.declared.way.Choice.{Choice}
 use Rattle.rule.specs.Pairs.{Model, settled}
@@ -19,7 +19,7 @@ use Rattle.rule.specs.Rule.{rule, Ran, done, refused, run}
 use Rattle.rule.specs.Stream.{Stream, access, fence}
 use Rattle.rule.proofs.Choices.{rule-fence}
 use Rattle.rule.proofs.Reach.{Reach, fresh, passed, plain, fenced, run-reach}
-use Rattle.runs.specs.Bytes.{Judged, good, bad, judged, operations, operationsFrom, fault, fenceBytes, outcomeOf, direct}
+use Rattle.runs.specs.Bytes.{Judged, good, bad, judged, operations, operationsFrom, fault, outcomeOf, direct}
 
 module _ (way : Way) (up target : Model) where
   -- before the first operation no pair is short
