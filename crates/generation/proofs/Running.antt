@@ -11,7 +11,7 @@ use Rattle.answers.specs.Given.{Given, gives, refuses}
 use Rattle.operations.specs.declared.Kind.{Kind}
 use Rattle.operations.specs.declared.Operation.{Operation}
 use Rattle.operations.specs.declared.Byte.{Byte}
-use Rattle.operations.specs.Operation.{byteIs, fenceByte}
+use Rattle.operations.specs.Operation.{byteIs, fenceByte, isFence, fenceBytes}
 use Rattle.operations.specs.Alphabet.{letterOf}
 use Rattle.operations.proofs.Bytes.{fence-read}
 use Rattle.rule.specs.declared.situation.Situation.{Situation}
@@ -20,7 +20,7 @@ use Rattle.rule.specs.declared.way.Choice.{Choice}
 use Rattle.rule.specs.Pairs.{Model, fenceTable}
 use Rattle.rule.specs.Situation.{asks, offers, joins, pending, choiceOf, stepOf, stepped}
 use Rattle.rule.specs.declared.way.Step as rule
-use Rattle.runs.specs.Bytes.{isFence, fenceBytes, judgedAs}
+use Rattle.runs.specs.Bytes.{judgedAs}
 use Rattle.runs.specs.inner.Moves.{movedBy, movedAs, ahead, movesOn, moves}
 use Rattle.runs.proofs.Ahead.{ahead-none}
 use Rattle.mealy.specs.Runs.{taken}

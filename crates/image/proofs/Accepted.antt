@@ -1,93 +1,33 @@
 -- Of an image that is accepted: its machine's image is the image itself. Assumes nothing.
 use Prim.Native.Nat.{ℕ, _+_, _-_, _*_, _/_, _%_, _<_, _≤_}
-use mathlib.Core.Path.{_≡_, refl, sym, ap, ap₂, subst, _∙_}
-use mathlib.Core.Bool.{Bool, true, false, not, cond}
+use mathlib.Core.Path.{_≡_, refl, sym, ap, ap₂, _∙_}
+use mathlib.Core.Bool.{Bool, false, not, cond}
 use mathlib.Core.Logic.{_⊎_, inl, inr}
 use mathlib.Core.List.{List}
 use native.Mathlib.Decide.{ℕ-discrete, decLt}
 use native.Mathlib.Omega.{arith}
-use borrow.Author.Tests.{lt-ltb, le-ltb, le-leb, eq-eqb, ne-eqb, ltb-false, leb-false, eqb-true, eqb-false}
+use borrow.Author.Tests.{lt-ltb, le-ltb, eq-eqb, ne-eqb, ltb-false, leb-false}
 use lib.Dec.{leb, ltb, eqb}
 use lib.ListN.{length}
-use Rattle.ground.specs.declared.Found.{Found}
 use Rattle.ground.specs.Bytes.{at}
-use Rattle.ground.proofs.Truths.{differ, true-false}
-use Rattle.answers.specs.declared.Refusal.{Refusal}
-use Rattle.answers.specs.declared.Verdict.{Verdict}
 use Rattle.operations.specs.Alphabet.{stride}
 use Rattle.layout.specs.declared.places.Place.{Place}
 use Rattle.layout.specs.Checksum.{twoBytes}
-use Rattle.layout.specs.Layout.{limit, blocksFor, standsAt, position}
-use Rattle.layout.specs.Barred.{wrong, checkOf, blockCount, wrongCount, barredFence, nextBelow, statesOf, upstreamFencesOf, targetFencesOf}
-use Rattle.layout.specs.Barred.{barredAs, barred, lowestWrong, lowestBarred, stages, verdictOf}
-use Rattle.image.specs.Image.{word, half, used, valueAs, valueAt, checkFor, byteAt, imageOf, headerOf, entryWord, rowsOf, AccessWord, Canonical}
-use Rattle.image.specs.inner.Faultless.{Faultless, Block}
-use Rattle.image.proofs.Inverse.{neither, chosen, equal, nowhere}
-use Rattle.image.proofs.Fronts.{at-listed, is-listed}
+use Rattle.layout.specs.Layout.{standsAt, position}
+use Rattle.layout.specs.Barred.{checkOf, barredFence, nextBelow, statesOf, upstreamFencesOf, targetFencesOf, barredAs}
+use Rattle.layout.specs.inner.Faultless.{Faultless}
 use Rattle.layout.specs.inner.Standing.{Stands}
-use Rattle.layout.proofs.Standing.{stands, fence-at, next-at, onward-at, upstream-at, target-at, within-image}
-use Rattle.image.proofs.NameFields.{good-field}
+use Rattle.layout.proofs.Faultless.{first-block, unbarred, rule-at, some-states, length-is, few-upstream, few-targets, block-of}
+use Rattle.layout.proofs.Faultless.{entry-fence, entry-next-rule, entry-next, entry-onward}
+use Rattle.layout.proofs.Inverse.{equal}
+use Rattle.layout.proofs.Standing.{stands, upstream-at, target-at}
 use Rattle.layout.proofs.Sums.{check-same}
+use Rattle.image.specs.Image.{word, half, used, valueAs, valueAt, checkFor, byteAt, imageOf, headerOf, entryWord, rowsOf, AccessWord, Canonical}
+use Rattle.image.proofs.Fronts.{at-listed, is-listed}
+use Rattle.image.proofs.NameFields.{good-field}
 use Rattle.image.proofs.Sealing.{byte-content, byte-high, byte-low}
 
--- the stages of an acceptance
-staged : (f g : Found) → stages f g ≡ Verdict.Accepted → (f ≡ Found.Nowhere) × (g ≡ Found.Nowhere)
-staged (Found.At b) g e = differ (cc)
-staged Found.Nowhere (Found.At i) e = differ (cc)
-staged Found.Nowhere Found.Nowhere e = (refl, refl)
-
-pub accepted-faultless : (image : List ℕ) → verdictOf image ≡ Verdict.Accepted → Faultless image
-unfolding verdictOf
-accepted-faultless image e = go (ltb limit (length image)) refl e
-  where
-    go : (t : Bool) → ltb limit (length image) ≡ t
-        → cond t (Verdict.Refused Refusal.OverLimit)
-        (stages (lowestWrong image) (lowestBarred image))
-        ≡ Verdict.Accepted
-        → Faultless image
-    go true h w = differ (cc)
-    go false h w =
-        let s = staged _ _ w in
-        record {
-          fits = ltb-false limit (length image) h;
-          blocks = λ b l. nowhere (wrong image) (blockCount image) 0 (s .0) b (omega arith) (omega arith);
-          bytes = λ i l. nowhere (barred image) (length image) 0 (s .1) i (omega arith) (omega arith);
-        }
-
-right-block : (image : List ℕ) (b : ℕ) → wrong image b ≡ false → Block image b
-unfolding wrong
-right-block image b e =
-    let s = neither (ltb (length image) (512 * b + 512)) e in
-    let t = chosen (eqb (twoBytes (at image (512 * b)) (at image (512 * b + 1))) b) (s .1) in
-    record {
-      whole = ltb-false (length image) (512 * b + 512) (s .0);
-      number = eqb-true (twoBytes (at image (512 * b)) (at image (512 * b + 1))) b (t .0);
-      check = equal _ _ (t .1);
-    }
-
 module _ (image : List ℕ) (bytes : (i : ℕ) → at image i < 256) (faultless : Faultless image) where
-  pub first-block : 512 ≤ length image
-  first-block = omega (arith, right-block image 0 (faultless .blocks 0 (omega arith)) .whole)
-
-  pub unbarred : (i : ℕ) → i < length image → barredAs image i (at image i) (standsAt 1 i) ≡ false
-  unfolding barred
-  unbarred i l = faultless .bytes i l
-
-  counted : wrongCount image (statesOf image) ≡ false
-  unfolding standsAt
-  counted = unbarred 4 (omega (arith, first-block))
-
-  pub some-states : 0 < statesOf image
-  unfolding wrongCount
-  some-states = let z = eqb-false (statesOf image) 0 (neither (eqb (statesOf image) 0) counted .0) in omega (arith, z)
-
-  pub length-is : length image ≡ 512 * blocksFor 1 (statesOf image)
-  unfolding wrongCount
-  length-is = equal _ _ (neither (eqb (statesOf image) 0) counted .1)
-
-  pub block-of : (i : ℕ) → i < length image → Block image (i / 512)
-  block-of i l = right-block image (i / 512) (faultless .blocks (i / 512) (omega (arith, length-is)))
-
   -- what is read
 
   word-is : (s a : ℕ) → s < statesOf image → a < stride → word (rowsOf image) s a ≡ entryWord image s a
@@ -138,11 +78,11 @@ module _ (image : List ℕ) (bytes : (i : ℕ) → at image i < 256) (faultless 
       go (yes e) =
           let k : 512 * (i / 512) ≡ i = omega arith in
           rw (eq-eqb (i % 2) 0 e)
-          (omega (arith, block-of i l .number, bytes (512 * (i / 512) + 1), ap (at image) k))
+          (omega (arith, block-of image faultless i l .number, bytes (512 * (i / 512) + 1), ap (at image) k))
       go (no e) =
           let k : 512 * (i / 512) + 1 ≡ i = omega arith in
           rw (ne-eqb (i % 2) 0 e)
-          (omega (arith, block-of i l .number, bytes (512 * (i / 512) + 1), ap (at image) k))
+          (omega (arith, block-of image faultless i l .number, bytes (512 * (i / 512) + 1), ap (at image) k))
 
   access-word : (q a : ℕ) → q < statesOf image → a < 4
       → word (rowsOf image) q a ≡ 256 * at image (position 1 q (2 * a)) + at image (position 1 q (2 * a + 1))
@@ -202,12 +142,12 @@ module _ (image : List ℕ) (bytes : (i : ℕ) → at image i < 256) (faultless 
 
   value-same : (i : ℕ) → i < length image → i % 512 < 510 → valueAt (headerOf image) (rowsOf image) i ≡ at image i
   unfolding valueAt
-  value-same i l u = same-as i l u (standsAt 1 i) (stands i) (unbarred i l)
+  value-same i l u = same-as i l u (standsAt 1 i) (stands i) (unbarred image faultless i l)
 
   check-same-as : (i : ℕ) → i < length image → checkFor (headerOf image) (rowsOf image) (i / 512) ≡ checkOf image (i / 512)
   unfolding checkOf checkFor
   check-same-as i l =
-      check-same _ _ (λ p k. value-same (512 * (i / 512) + p) (omega (arith, block-of i l .whole)) (omega arith))
+      check-same _ _ (λ p k. value-same (512 * (i / 512) + p) (omega (arith, block-of image faultless i l .whole)) (omega arith))
 
   byte-same : (i : ℕ) → i < length image → byteAt (headerOf image) (rowsOf image) i ≡ at image i
   byte-same i l = go (decLt (i % 512) 510) (ℕ-discrete (i % 512) 510)
@@ -217,48 +157,23 @@ module _ (image : List ℕ) (bytes : (i : ℕ) → at image i < 256) (faultless 
       go (no u) (yes d) =
           let e : 512 * (i / 512) + 510 ≡ i = omega arith in
           ap (byteAt (headerOf image) (rowsOf image)) (sym e) ∙ byte-high (headerOf image) (rowsOf image) (i / 512)
-          ∙ omega (arith, check-same-as i l, block-of i l .check, bytes (512 * (i / 512) + 510 + 1), ap (at image) e)
+          ∙ omega (arith, check-same-as i l, block-of image faultless i l .check, bytes (512 * (i / 512) + 510 + 1), ap (at image) e)
       go (no u) (no d) =
           let e : 512 * (i / 512) + 511 ≡ i = omega arith in
           let f : 512 * (i / 512) + 510 + 1 ≡ i = omega arith in
           ap (byteAt (headerOf image) (rowsOf image)) (sym e) ∙ byte-low (headerOf image) (rowsOf image) (i / 512)
-          ∙ omega (arith, check-same-as i l, block-of i l .check, bytes (512 * (i / 512) + 510 + 1), ap (at image) f)
+          ∙ omega (arith, check-same-as i l, block-of image faultless i l .check, bytes (512 * (i / 512) + 510 + 1), ap (at image) f)
 
   -- what was read writes the same bytes
   pub image-same : imageOf (headerOf image) (rowsOf image) ≡ image
   unfolding imageOf headerOf
-  image-same = sym (is-listed _ _ image length-is (λ i l. sym (byte-same i (omega (arith, length-is)))))
+  image-same = sym (is-listed _ _ image (length-is image faultless) (λ i l. sym (byte-same i (omega (arith, length-is image faultless)))))
 
   -- what was read is a machine of the layout
 
-  rule-at : (i : ℕ) (place : Place) → i < length image → standsAt 1 i ≡ place → barredAs image i (at image i) place ≡ false
-  rule-at i place l e = subst (λ (p : Place). barredAs image i (at image i) p ≡ false) e (unbarred i l)
-
-  in-entry : (s o : ℕ) → s < statesOf image → o < 24 → position 1 s o < length image
-  in-entry s o l k = omega (arith, length-is, within-image s o (statesOf image) l k)
-
-  fence-kept : (s v : ℕ) → s < statesOf image → v < 256 → barredFence image s v ≡ false
-      → (v ≡ 254) ⊎ ((v < targetFencesOf image) ⊎ (v ≡ 255))
-  unfolding barredFence
-  fence-kept s v l u e = go (decLt v (targetFencesOf image)) (decLt v 254) (ℕ-discrete v 254)
-    where
-      open-e : cond (leb (targetFencesOf image) v) (ltb v 254) false ≡ false
-      open-e = rw (lt-ltb s (statesOf image) l) at e
-
-      go : Dec (v < targetFencesOf image) → Dec (v < 254) → Dec (v ≡ 254) → (v ≡ 254) ⊎ ((v < targetFencesOf image) ⊎ (v ≡ 255))
-      go (yes k) c d = inr (inl k)
-      go (no k) (yes c) d =
-          true-false (rw (le-leb (targetFencesOf image) v (omega arith), lt-ltb v 254 c) at open-e)
-      go (no k) (no c) (yes d) = inl d
-      go (no k) (no c) (no d) = inr (inr (omega arith))
-
-  next-kept : (s v : ℕ) → s < statesOf image → leb (nextBelow image s true) v ≡ false → v < statesOf image
-  unfolding nextBelow
-  next-kept s v l e = leb-false (statesOf image) v (rw (lt-ltb s (statesOf image) l) at e)
-
   access-kept : (s a : ℕ) → s < statesOf image → a < 4 → AccessWord (headerOf image) (word (rowsOf image) s a)
   unfolding headerOf
-  access-kept s a l k = go (ℕ-discrete x 254) (fence-kept s x l (bytes _) (rule-at _ _ (in-entry s (2 * a) l (omega arith)) (fence-at s a k)))
+  access-kept s a l k = go (ℕ-discrete x 254) (entry-fence image faultless s l a k (bytes _))
     where
       x : ℕ
       x = at image (position 1 s (2 * a))
@@ -269,14 +184,6 @@ module _ (image : List ℕ) (bytes : (i : ℕ) → at image i < 256) (faultless 
       w : word (rowsOf image) s a ≡ 256 * x + y
       w = access-word s a l k
 
-      before : position 1 s (2 * a + 1) - 1 ≡ position 1 s (2 * a)
-      before = omega arith
-
-      rule : leb (nextBelow image s (not (eqb x 254))) y ≡ false
-      rule =
-          subst (λ (i : ℕ). leb (nextBelow image s (not (eqb (at image i) 254))) y ≡ false) before
-          (rule-at _ _ (in-entry s (2 * a + 1) l (omega arith)) (next-at s a k))
-
       high : word (rowsOf image) s a / 256 ≡ x
       high = omega (arith, w, bytes (position 1 s (2 * a + 1)))
 
@@ -284,45 +191,38 @@ module _ (image : List ℕ) (bytes : (i : ℕ) → at image i < 256) (faultless 
       low = omega (arith, w, bytes (position 1 s (2 * a + 1)))
 
       below : (x ≡ 254 → ⊥) → word (rowsOf image) s a % 256 < statesOf image
-      below e =
-          omega
-          (arith, low, next-kept s y l (subst (λ (t : Bool). leb (nextBelow image s t) y ≡ false) (ap not (ne-eqb x 254 e)) rule))
+      below e = omega (arith, low, entry-next image faultless s l a k e)
 
       go : Dec (x ≡ 254) → (x ≡ 254) ⊎ ((x < targetFencesOf image) ⊎ (x ≡ 255))
           → ((word (rowsOf image) s a / 256 ≡ 254) × (word (rowsOf image) s a % 256 ≡ 0))
           ⊎ (((word (rowsOf image) s a / 256 < targetFencesOf image) ⊎ (word (rowsOf image) s a / 256 ≡ 255))
           × (word (rowsOf image) s a % 256 < statesOf image))
-      go (yes e) c = inl (high ∙ e, low ∙ next-nowhere s y _ l (ap not (eq-eqb x 254 e)) rule)
+      go (yes e) c = inl (high ∙ e, low ∙ next-nowhere s y _ l (ap not (eq-eqb x 254 e)) (entry-next-rule image faultless s l a k))
       go (no e) (inl c) = absurd (e c)
       go (no e) (inr (inl c)) = inr (inl (omega (arith, high)), below e)
       go (no e) (inr (inr c)) = inr (inr (high ∙ c), below e)
 
-  fences-kept : (s f : ℕ) → s < statesOf image → f < upstreamFencesOf image → upstreamFencesOf image ≤ 16
+  fences-kept : (s f : ℕ) → s < statesOf image → f < upstreamFencesOf image
       → (word (rowsOf image) s (4 + f) / 256 ≡ 255) × (word (rowsOf image) s (4 + f) % 256 < statesOf image)
-  fences-kept s f l k u =
-      let w = word-is s (4 + f) l (omega arith) ∙ fence-is s f k in
-      let r = rule-at _ _ (in-entry s (8 + f) l (omega arith)) (onward-at s f (omega arith)) in
-      let n =
-      next-kept s (at image (position 1 s (8 + f))) l
-      (subst (λ (t : Bool). leb (nextBelow image s t) (at image (position 1 s (8 + f))) ≡ false) (lt-ltb f (upstreamFencesOf image) k) r) in (
+  fences-kept s f l k =
+      let w = word-is s (4 + f) l (omega (arith, few-upstream image faultless)) ∙ fence-is s f k in (
         omega (arith, w, bytes (position 1 s (8 + f))),
-        omega (arith, w, bytes (position 1 s (8 + f)), n),
+        omega (arith, w, bytes (position 1 s (8 + f)), entry-onward image faultless s l f k),
       )
 
   pub canonical-read : Canonical (headerOf image) (rowsOf image)
   unfolding headerOf standsAt
   canonical-read =
-      let f = first-block in
-      let u = ltb-false 16 (upstreamFencesOf image) (rule-at 5 Place.UpstreamFences (omega arith) refl) in
+      let f = first-block image faultless in
       record {
-        way = ltb-false 1 (at image 3) (rule-at 3 Place.Way (omega arith) refl);
-        some = some-states;
+        way = ltb-false 1 (at image 3) (rule-at image faultless 3 Place.Way (omega arith) refl);
+        some = some-states image faultless;
         states = omega (arith, bytes 4);
-        ups = u;
-        targets = ltb-false 16 (targetFencesOf image) (rule-at 6 Place.TargetFences (omega arith) refl);
-        upstream = good-field image 7 (λ k l. rule-at (7 + k) (Place.UpstreamName k) (omega arith) (upstream-at k l));
-        target = good-field image 23 (λ k l. rule-at (23 + k) (Place.TargetName k) (omega arith) (target-at k l));
+        ups = few-upstream image faultless;
+        targets = few-targets image faultless;
+        upstream = good-field image 7 (λ k l. rule-at image faultless (7 + k) (Place.UpstreamName k) (omega arith) (upstream-at k l));
+        target = good-field image 23 (λ k l. rule-at image faultless (23 + k) (Place.TargetName k) (omega arith) (target-at k l));
         accesses = access-kept;
-        fences = λ s g l k. fences-kept s g l k u;
+        fences = λ s g l k. fences-kept s g l k;
         absent = λ s g l k m. word-is s (4 + g) l (omega arith) ∙ absent-is s g k;
       }

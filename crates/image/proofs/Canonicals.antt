@@ -20,7 +20,7 @@ use Rattle.layout.specs.Barred.{wrong, checkOf, blockCount, wrongCount, barredF
 use Rattle.layout.specs.Barred.{barredAs, barred, verdictOf}
 use Rattle.image.specs.Image.{listed, word, half, used, valueAs, valueAt, checkFor, byteAt, sizeOf, imageOf, headerOf, entryWord, rowsOf}
 use Rattle.image.specs.Image.{AccessWord, Canonical}
-use Rattle.image.proofs.Inverse.{all-nowhere}
+use Rattle.layout.proofs.Inverse.{all-nowhere}
 use Rattle.image.proofs.Fronts.{length-listed, at-listed, is-listed, front-whole}
 use Rattle.layout.proofs.Sums.{check-same}
 use Rattle.layout.specs.inner.Standing.{Stands}

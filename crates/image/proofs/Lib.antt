@@ -3,7 +3,6 @@ pub mod Values
 pub mod Sealing
 pub mod Entries
 pub mod Readings
-pub mod Inverse
 pub mod Accepted
 pub mod NameFields
 pub mod Canonicals

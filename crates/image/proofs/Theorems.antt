@@ -9,8 +9,9 @@ use Rattle.operations.specs.Alphabet.{stride}
 use Rattle.image.specs.declared.machine.Header.{Header}
 use Rattle.layout.specs.Layout.{blocksFor}
 use Rattle.layout.specs.Barred.{verdictOf}
+use Rattle.layout.proofs.Faultless.{accepted-faultless}
 use Rattle.image.specs.Image.{imageOf, headerOf, rowsOf, Canonical, LaidOut}
-use Rattle.image.proofs.Accepted.{accepted-faultless, image-same, canonical-read}
+use Rattle.image.proofs.Accepted.{image-same, canonical-read}
 use Rattle.image.proofs.Canonicals.{length-image, canonical-accepted, same-header, same-rows-taken}
 
 module _ (image : List ℕ) (bytes : (i : ℕ) → at image i < 256) where

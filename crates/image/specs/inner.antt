@@ -1,3 +1,2 @@
 -- What serves the crate's private functions and their proofs alone. A reader need not believe it.
 pub mod Filling
-pub mod Faultless

@@ -1,3 +1,4 @@
+pub mod AnyImage
 pub mod Steps
 pub mod Runs
 pub mod Endings

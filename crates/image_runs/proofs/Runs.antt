@@ -70,7 +70,7 @@ walked-none (ended out f s) = let e : 0 + f ≡ f = omega arith in ap (λ (c : �
 walked-none (stopped why i) = let e : 0 + i ≡ i = omega arith in ap (stopped why) e
 
 -- how much a move can add
-puts-few : (b : ℕ) (m : Move) → length (puts b m) ≤ 2
+pub puts-few : (b : ℕ) (m : Move) → length (puts b m) ≤ 2
 puts-few b (Move.Passed t) = omega arith
 puts-few b (Move.Plain t) = omega arith
 puts-few b (Move.Fenced x t) = omega arith

@@ -5,3 +5,5 @@ pub mod Names
 pub mod Standing
 pub mod Verdicts
 pub mod Zeros
+pub mod Inverse
+pub mod Faultless

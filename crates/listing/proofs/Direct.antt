@@ -17,7 +17,7 @@ use Rattle.answers.specs.Given.{Given, gives, refuses, answerOf, bufferOf, Deli
 use Rattle.answers.proofs.Laws.{buffer-fits, answer-fits}
 use Rattle.operations.specs.declared.Kind.{Kind}
 use Rattle.operations.specs.declared.Operation.{Operation}
-use Rattle.operations.specs.Operation.{byteOf}
+use Rattle.operations.specs.Operation.{byteOf, fenceBytes}
 use Rattle.rule.specs.declared.situation.Situation.{Situation}
 use Rattle.rule.specs.declared.way.Way.{Way}
 use Rattle.rule.specs.declared.way.Step.{Step}
@@ -28,7 +28,7 @@ use Rattle.rule.specs.Stream.{Stream, access, fence}
 use Rattle.rule.proofs.Theorems.{steps-are-the-rule}
 use Rattle.shims.specs.declared.Models.{Models}
 use Rattle.shims.specs.Models.{modelOf}
-use Rattle.runs.specs.Bytes.{Judged, good, bad, judged, operations, operationsFrom, fault, outcomeOf, direct, fenceBytes, puts}
+use Rattle.runs.specs.Bytes.{Judged, good, bad, judged, operations, operationsFrom, fault, outcomeOf, direct, puts}
 use Rattle.runs.specs.Call.{runGiven}
 use Rattle.listing.specs.inner.Limits.{RunOutput}
 

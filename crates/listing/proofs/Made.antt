@@ -13,7 +13,7 @@ use Rattle.answers.specs.declared.Verdict.{Verdict}
 use Rattle.answers.specs.Given.{gives, Delivers, Answers}
 use Rattle.operations.specs.declared.Operation.{Operation}
 use Rattle.operations.specs.declared.Byte.{Byte}
-use Rattle.operations.specs.Operation.{byteIs}
+use Rattle.operations.specs.Operation.{byteIs, isFence, fenceBytes}
 use Rattle.operations.specs.Alphabet.{lettersWith, stride}
 use Rattle.rule.specs.declared.way.Way.{Way}
 use Rattle.printing.proofs.Names.{unfilled-short}
@@ -24,7 +24,6 @@ use Rattle.shims.specs.Models.{modelOf}
 use Rattle.shims.specs.Opening.{openedBy}
 use Rattle.shims.proofs.Theorems.{opens}
 use Rattle.shims.proofs.Fences.{few-read, few-fences}
-use Rattle.runs.specs.Bytes.{isFence, fenceBytes}
 use Rattle.mealy.specs.Runs.{refused, taken}
 use Rattle.machine.specs.declared.machine.Machine.{Machine}
 use Rattle.machine.specs.declared.machine.Outcome.{Outcome}

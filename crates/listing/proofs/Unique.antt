@@ -16,7 +16,8 @@ use Rattle.shims.specs.declared.WayRead.{WayRead}
 use Rattle.shims.specs.declared.Models.{Models}
 use Rattle.shims.specs.Opening.{openedBy}
 use Rattle.shims.proofs.Calls.{given-one}
-use Rattle.runs.specs.Bytes.{fenceBytes, puts}
+use Rattle.operations.specs.Operation.{fenceBytes}
+use Rattle.runs.specs.Bytes.{puts}
 use Rattle.mealy.specs.Runs.{Answer as Entry, Machine, Same}
 use Rattle.mealy.specs.Arrivals.{Described}
 use Rattle.mealy.proofs.Unique.{equal, same-states, not-more, described-at-most, described-unique}

@@ -14,7 +14,8 @@ use Rattle.shims.specs.declared.WayRead.{WayRead}
 use Rattle.shims.specs.declared.Models.{Models}
 use Rattle.shims.specs.Models.{modelOf}
 use Rattle.shims.specs.Opening.{openedBy, GivenOnOpened}
-use Rattle.runs.specs.Bytes.{fenceBytes, puts}
+use Rattle.operations.specs.Operation.{fenceBytes}
+use Rattle.runs.specs.Bytes.{puts}
 use Rattle.runs.specs.Call.{runGiven}
 use Rattle.mealy.specs.Runs.{Answer, Machine, Same}
 use Rattle.mealy.specs.Arrivals.{More, AtMost, Described}

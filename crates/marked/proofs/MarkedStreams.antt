@@ -3,14 +3,14 @@ use mathlib.Core.Path.{_≡_, refl}
 use mathlib.Core.List.{map}
 use Rattle.tables.specs.Table.{table, mergedTable}
 use Rattle.ground.specs.Lowest.{lowest}
-use Rattle.operations.specs.Operation.{byteIs}
+use Rattle.operations.specs.Operation.{byteIs, fenceBytes}
 use Rattle.rule.specs.Pairs.{settled}
 use Rattle.rule.specs.Rule.{rule, onward}
 use Rattle.built_ins.specs.BuiltIns.{fourRows, under, builtIns, builtIn}
 use Rattle.models.specs.Reading.{headAt, fenceAt, nameIn, tableIn, ended, linesFrom, reading}
 use Rattle.texts.specs.NamePart.{nameRun, nameStep}
 use Rattle.texts.specs.Pattern.{follow}
-use Rattle.runs.specs.Bytes.{operations, fault, direct, fenceBytes}
+use Rattle.runs.specs.Bytes.{operations, fault, direct}
 use Rattle.marked.specs.Marked.{Entry, marked, given}
 
 -- On every marked stream the call gives what document 01 says, from the models' texts to the bytes put out.

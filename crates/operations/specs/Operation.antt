@@ -1,6 +1,7 @@
 -- Document 01: "An operation is one byte: `l` ld, `L` cld, `s` st, `S` cst, `0` to `9` then `A` to `F` for fence numbers 0 to 15."
 use Prim.Native.Nat.{ℕ, _+_, _-_, _<_}
 use mathlib.Core.Bool.{cond}
+use mathlib.Core.List.{List, [], _∷_}
 use lib.Dec.{ltb, eqb}
 use Rattle.ground.specs.Bytes.{inRange}
 use Rattle.operations.specs.declared.Kind.{Kind}
@@ -35,3 +36,13 @@ byteOf (Operation.Fence n) = fenceByte n
 abbrev pub HasByte : Operation → Type 0
 HasByte (Operation.Access k) = Unit {0}
 HasByte (Operation.Fence n) = n < 16
+
+-- how many bytes of an output are fences
+abbrev pub isFence : Byte → ℕ
+isFence Byte.Nothing = 0
+isFence (Byte.Is (Operation.Access k)) = 0
+isFence (Byte.Is (Operation.Fence n)) = 1
+
+unfoldable pub fenceBytes : List ℕ → ℕ
+fenceBytes [] = 0
+fenceBytes (b ∷ bytes) = isFence (byteIs b) + fenceBytes bytes

@@ -4,9 +4,10 @@ use mathlib.Core.Path.{_≡_, refl, sym, ap, ap₂}
 use mathlib.Core.List.{List, [], _++_, append-assoc}
 use native.Mathlib.Omega.{arith}
 use Rattle.answers.specs.Given.{Given, gives, refuses}
-use Rattle.runs.specs.Bytes.{fenceBytes, puts}
+use Rattle.operations.specs.Operation.{fenceBytes}
+use Rattle.operations.proofs.Counting.{fences-append}
+use Rattle.runs.specs.Bytes.{puts}
 use Rattle.runs.specs.inner.Moves.{ahead}
-use Rattle.runs.proofs.Counting.{fences-append}
 
 pub ahead-none : (x : Given) → ahead [] x ≡ x
 unfolding fenceBytes

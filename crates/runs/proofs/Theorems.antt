@@ -1,13 +1,14 @@
 -- The theorems of the call: what a call has done that puts bytes out, for every way, texts, stream and buffer. Its stages have all gone on, and the
 -- rest is said by the theorems of `rule`. Assumes nothing.
-use Prim.Native.Nat.{ℕ, suc, _≤_, _<_}
+use Prim.Native.Nat.{ℕ, suc, _-_, _*_, _≤_, _<_}
 use mathlib.Core.Path.{_≡_, refl, sym, ap, ap₂, _∙_}
 use mathlib.Core.Bool.{Bool, true, false, cond}
 use mathlib.Core.List.{List, [], _∷_, _++_, map}
 use mathlib.Core.Option.{Option, none, some}
+use native.Mathlib.Omega.{arith}
 use borrow.Author.Tests.{ltb-false}
 use lib.Dec.{ltb}
-use lib.ListN.{length}
+use lib.ListN.{length, length-map}
 use Rattle.ground.proofs.Truths.{differ}
 use Rattle.answers.specs.declared.Refusal.{Refusal}
 use Rattle.answers.specs.Given.{Given, refuses}
@@ -23,6 +24,7 @@ use Rattle.shims.proofs.Calls.{opened-gives}
 use Rattle.shims.proofs.Theorems.{opens}
 use Rattle.shims.specs.declared.Models.{Models}
 use Rattle.runs.proofs.Judging.{good-byte}
+use Rattle.runs.proofs.Longest.{longest-run}
 use Rattle.runs.specs.Bytes.{Judged, good, bad, judged, operations, operationsFrom, fault, faultFrom, puts, outcomeOf, direct}
 use Rattle.runs.specs.Call.{onStream, runGiven, outcome}
 use Rattle.runs.specs.DirectRun.{DirectRun}
@@ -120,6 +122,18 @@ module _ {number : ℕ} {upstream target stream bytes : List ℕ} (call : Direct
   -- Nothing is put behind the last access.
   pub call-ends : through (count (call .output)) (call .output) ≡ call .output
   call-ends = nothing-at-the-end way up on (call .input) (call .output) (call .ran)
+
+  -- What it puts out is at most one byte less than twice what it was given, so 8,191 bytes.
+  pub call-longest : length bytes ≤ 2 * length stream - 1
+  call-longest =
+      omega (
+        arith,
+        longest-run way up on (call .input) (call .output) (call .ran),
+        ap length (call .reads),
+        ap length (call .writes),
+        length-map (call .input) byteOf,
+        length-map (call .output) byteOf,
+      )
 
   -- Demand 3. In the full way no placing of the target's fences among the same accesses that keeps every pair has fewer.
   pub call-fewest : way ≡ Way.Full → (other : Stream) → Placing on (call .input) other → Keeps up on (call .input) other

@@ -11,7 +11,7 @@ use Rattle.answers.specs.declared.Refusal.{Refusal}
 use Rattle.answers.specs.Given.{Given, gives, refuses}
 use Rattle.operations.specs.declared.Operation.{Operation}
 use Rattle.operations.specs.declared.Byte.{Byte}
-use Rattle.operations.specs.Operation.{byteIs, byteOf}
+use Rattle.operations.specs.Operation.{byteIs, byteOf, fenceBytes}
 use Rattle.rule.specs.declared.way.Way.{Way}
 use Rattle.rule.specs.Stream.{Stream}
 use Rattle.rule.specs.Pairs.{Model}
@@ -46,16 +46,6 @@ faultFrom (bad why) rest = some why
 unfoldable pub fault : ℕ → ℕ → List ℕ → Option Refusal
 fault n at [] = none
 fault n at (b ∷ bytes) = faultFrom (judged n at b) (fault n (suc at) bytes)
-
--- how many bytes of an output are fences
-abbrev pub isFence : Byte → ℕ
-isFence Byte.Nothing = 0
-isFence (Byte.Is (Operation.Access k)) = 0
-isFence (Byte.Is (Operation.Fence n)) = 1
-
-unfoldable pub fenceBytes : List ℕ → ℕ
-fenceBytes [] = 0
-fenceBytes (b ∷ bytes) = isFence (byteIs b) + fenceBytes bytes
 
 -- what a direct run gives that puts these bytes out: their fences are counted, and there is no end state to tell
 abbrev pub puts : List ℕ → Given

@@ -5,7 +5,7 @@ use mathlib.Core.List.{List}
 use lib.ListN.{length}
 use Rattle.operations.specs.Alphabet.{lettersWith, stride}
 use Rattle.shims.specs.declared.Models.{Models}
-use Rattle.runs.specs.Bytes.{fenceBytes}
+use Rattle.operations.specs.Operation.{fenceBytes}
 use Rattle.machine.specs.declared.machine.Machine.{Machine}
 use Rattle.listing.specs.Printed.{Listing, nextState}
 

@@ -5,8 +5,8 @@ use native.Mathlib.Omega.{arith}
 use borrow.Author.Needs.{needs}
 use denote.Ref.{now}
 use lib.ListN.{length, drop}
-use Rattle.runs.specs.Bytes.{fenceBytes}
-use Rattle.runs.proofs.Counting.{fences-next, fences-over}
+use Rattle.operations.specs.Operation.{fenceBytes}
+use Rattle.operations.proofs.Counting.{fences-next, fences-over}
 use Rattle.runs.proofs.fences_in.Statement.{statement}
 use Rattle.runs.proofs.fences_in.Tie as tie
 

@@ -10,7 +10,7 @@ use Rattle.answers.specs.declared.Answer.{Answer}
 use Rattle.answers.specs.declared.Refusal.{Refusal}
 use Rattle.answers.specs.Given.{gives, Delivers}
 use Rattle.answers.proofs.Given.{delivers-refusal, delivers-as}
-use Rattle.runs.specs.Bytes.{fenceBytes}
+use Rattle.operations.specs.Operation.{fenceBytes}
 use Rattle.runs.specs.declared.Ended.{Ended}
 use Rattle.runs.specs.inner.Laying.{given, Fits}
 use Rattle.runs.proofs.finish.Statement.{statement}

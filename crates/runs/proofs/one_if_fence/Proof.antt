@@ -3,7 +3,7 @@ use mathlib.Core.Path.{sym, ap, _∙_}
 use native.Mathlib.Omega.{arith}
 use borrow.Author.Needs.{needs}
 use Rattle.operations.specs.declared.Byte.{Byte}
-use Rattle.runs.specs.Bytes.{isFence}
+use Rattle.operations.specs.Operation.{isFence}
 use Rattle.runs.proofs.one_if_fence.Statement.{statement}
 use Rattle.runs.proofs.one_if_fence.Tie as tie
 

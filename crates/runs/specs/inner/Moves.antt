@@ -7,7 +7,7 @@ use lib.ListN.{length}
 use Rattle.answers.specs.declared.Refusal.{Refusal}
 use Rattle.answers.specs.Given.{Given, gives, refuses}
 use Rattle.operations.specs.declared.Operation.{Operation}
-use Rattle.operations.specs.Operation.{fenceByte}
+use Rattle.operations.specs.Operation.{fenceByte, fenceBytes}
 use Rattle.rule.specs.declared.situation.Situation.{Situation}
 use Rattle.rule.specs.declared.way.Way.{Way}
 use Rattle.rule.specs.declared.way.Shim.{Shim}
@@ -16,7 +16,7 @@ use Rattle.rule.specs.declared.way.Step.{Step}
 use Rattle.rule.specs.Pairs.{Model, tableAt, fenceTable}
 use Rattle.rule.specs.Situation.{asks, stepped}
 use Rattle.runs.specs.declared.Move.{Move}
-use Rattle.runs.specs.Bytes.{Judged, good, bad, judged, fenceBytes, puts}
+use Rattle.runs.specs.Bytes.{Judged, good, bad, judged, puts}
 
 -- what one byte does
 abbrev pub movedBy : ℕ → Step → Move
