@@ -4,3 +4,6 @@ pub mod Direct
 pub mod Delivered
 pub mod Running
 pub mod Demand1
+pub mod Accepted
+pub mod Demand2
+pub mod Demand3

@@ -14,14 +14,14 @@ use Rattle.rule.specs.Rule.{wayNumber}
 use Rattle.models.specs.declared.model.Model.{Model}
 use Rattle.models.specs.declared.model.Reading.{Reading}
 use Rattle.models.specs.Reading.{reading}
-use Rattle.models.specs.Told.{Told, accepting, refusing, over, departs, repeated, accepted}
+use Rattle.models.specs.Told.{Told, nothing, accepting, refusing, over, departs, repeated, accepted}
 use Rattle.models.proofs.Words.{told, told-is}
 use Rattle.shims.specs.declared.WayRead.{WayRead}
 use Rattle.shims.specs.declared.Models.{Models}
 use Rattle.shims.specs.declared.Opening.{Opening}
 use Rattle.shims.specs.Opening as shims
 use Rattle.shims.specs.Opening.{wayOf, onVerdict, onReading, onTarget, openedBy, opened, Opens}
-use Rattle.shims.proofs.Theorems.{read-written}
+use Rattle.shims.proofs.Theorems.{read-written, opens-so}
 use Rattle.demands.specs.Opened.{Opened, OpeningRefused, no-way, upstream-refused, target-refused}
 
 -- a number that is a way's
@@ -59,13 +59,15 @@ module _ {number : ℕ} {upstream target : List ℕ} where
         target-read = sym (told-is (o .target-told));
       }
 
+  -- and with no others
+  pub opened-one : {m m′ : Models} → Opened number upstream target m → Opened number upstream target m′ → m ≡ m′
+  opened-one p q = ap (λ (o : Opening). o .models) (sym (opens-so (told-opens p)) ∙ opens-so (told-opens q))
+
 -- a text whose reading is refused holds nothing
 refused-reading : {t : List ℕ} {r : Reading} {why : Refusal} → Told t r → r .verdict ≡ Verdict.Refused why → r ≡ refusing why
-refused-reading (over l) e =
-    let w : Verdict.Refused Refusal.OverLimit ≡ Verdict.Refused _ = e in
-    ap (λ (v : Verdict). record { verdict = v; model = refusing Refusal.OverLimit .model }) w
-refused-reading (departs {k = k} l n h) e = ap (λ (v : Verdict). record { verdict = v; model = refusing (Refusal.NotOfTheForm k) .model }) e
-refused-reading (repeated d k l f t s) e = ap (λ (v : Verdict). record { verdict = v; model = refusing Refusal.OverLimit .model }) e
+refused-reading (over l) e = ap (λ (v : Verdict). record { verdict = v; model = nothing }) e
+refused-reading (departs l n h) e = ap (λ (v : Verdict). record { verdict = v; model = nothing }) e
+refused-reading (repeated d k l f t s) e = ap (λ (v : Verdict). record { verdict = v; model = nothing }) e
 refused-reading (accepted d l f t s) e = differ (cc)
 
 told-refused : (t : List ℕ) {why : Refusal} → reading t .verdict ≡ Verdict.Refused why → Told t (refusing why)

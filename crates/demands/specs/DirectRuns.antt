@@ -30,6 +30,8 @@ pub record RunDone (number : ℕ) (upstream target stream out : List ℕ) (writt
   pub input-own : Own (up models) input
   pub output : Stream
   pub output-read : Reads (take written after) output
+  -- what was written is the rule's run of the stream
+  pub accepted : run (models .way) (up models) (on models) input ≡ done output
   -- the same accesses in order, and target fences among them
   pub placing : Placing (on models) input output
   pub kept : (i j : ℕ) → i < j → j < count input → KeptByOne (up models) (on models) input output i j
