@@ -17,17 +17,18 @@ use Rattle.operations.specs.declared.Operation.{Operation}
 use Rattle.operations.specs.declared.Byte.{Byte}
 use Rattle.operations.specs.Operation.{byteIs, byteOf, fenceBytes}
 use Rattle.operations.proofs.Bytes.{access-read, fence-read}
+use Rattle.rule.specs.declared.way.Way.{Way}
 use Rattle.rule.specs.Stream.{Stream, count, kindAt, HasFence, between}
 use Rattle.rule.specs.Stream as streams
 use Rattle.rule.specs.Pairs.{Model, fenceTable, isRow, isColumn, asked, offered}
 use Rattle.rule.specs.Rule.{done, run, everyFence}
-use Rattle.rule.proofs.Theorems.{is-a-placing, every-pair-kept, by-default-or-one-fence, fence-exactly-when, nothing-at-the-end}
+use Rattle.rule.proofs.Theorems.{is-a-placing, every-pair-kept, by-default-or-one-fence, fence-exactly-when, nothing-at-the-end, fewest-fences}
 use Rattle.shims.specs.declared.Models.{Models}
 use Rattle.shims.proofs.Fences.{few-read, few-fences}
 use Rattle.runs.specs.Bytes.{puts}
 use Rattle.runs.specs.Call.{outcome}
 use Rattle.runs.proofs.Counting.{fence-bytes-are-fences}
-use Rattle.demands.specs.Streams.{Reads, Own, KeptByOne}
+use Rattle.demands.specs.Streams.{Reads, Own, KeptByOne, Right}
 use Rattle.demands.specs.Opened.{Opened, up, on}
 use Rattle.demands.specs.DirectRuns.{RunDone}
 use Rattle.demands.proofs.Delivered.{Gave, done-gave}
@@ -51,17 +52,31 @@ reads-written n few (Operation.Fence f ∷ s) h =
     reads-on (byteOf (Operation.Fence f)) (map byteOf s) (Operation.Fence f) s (fence-read f (omega (arith, h .0))) (reads-written n few s (h .1))
 
 -- a pair that is kept is kept by the default or by one fence
-pub kept-by-one : (way-up target : Model) (input output : Stream) (i j : ℕ)
+pub kept-by-one : (upstream target : Model) (input output : Stream) (i j : ℕ)
     → ((r : Row) (c : Column) → isRow (kindAt input i) r ≡ true → isColumn (kindAt input j) c ≡ true
-    → asked way-up input i j r c ≤ offered target output i j r c) → KeptByOne way-up target input output i j
-kept-by-one way-up target input output i j kept r c p q = by (by-default-or-one-fence target output i j r c)
+    → asked upstream input i j r c ≤ offered target output i j r c) → KeptByOne upstream target input output i j
+kept-by-one upstream target input output i j kept r c p q = by (by-default-or-one-fence target output i j r c)
   where
     by : (offered target output i j r c ≡ cell (target .ppo) r c)
         ⊎ ((g : ℕ) × HasFence g (between i j output) × (offered target output i j r c ≡ cell (fenceTable target g) r c))
-        → (asked way-up input i j r c ≤ cell (target .ppo) r c)
-        ⊎ ((g : ℕ) × HasFence g (between i j output) × (asked way-up input i j r c ≤ cell (fenceTable target g) r c))
+        → (asked upstream input i j r c ≤ cell (target .ppo) r c)
+        ⊎ ((g : ℕ) × HasFence g (between i j output) × (asked upstream input i j r c ≤ cell (fenceTable target g) r c))
     by (inl e) = inl (omega (arith, kept r c p q, e))
     by (inr (g, h, e)) = inr (g, h, omega (arith, kept r c p q, e))
+
+-- what the rule gives is right
+pub is-right : (way : Way) (upstream target : Model) (input output : Stream) → run way upstream target input ≡ done output
+    → Right way upstream target input output
+is-right way upstream target input output accepted =
+    record {
+      accepted = accepted;
+      placing = is-a-placing way upstream target input output accepted;
+      kept = λ i j l k. kept-by-one upstream target input output i j (every-pair-kept way upstream target input output accepted i j l k);
+      fenced = fence-exactly-when way upstream target input output accepted;
+      nothing-behind = nothing-at-the-end way upstream target input output accepted;
+      fewest = λ full other p k.
+          fewest-fences upstream target input output (sym (ap (λ (w : Way). run w upstream target input) full) ∙ accepted) other p k;
+    }
 
 -- bytes that a call gives are those of a run that the rule accepts
 pub record Ran (number : ℕ) (upstream target stream bytes : List ℕ) (fences state : ℕ) : Type 0 where
@@ -108,8 +123,8 @@ module _ {number : ℕ} {upstream target stream out : List ℕ} {written fences 
       let m = ran .models in
       let input = ran .accepts .input in
       let output = ran .output in
-      let accepted = ran .accepts .accepted in
-      let placed = is-a-placing (m .way) (up m) (on m) input output accepted in
+      let right = is-right (m .way) (up m) (on m) input output (ran .accepts .accepted) in
+      let own = right .placing .its in
       let few = few-targets (ran .opened) in
       record {
         models = m;
@@ -119,13 +134,9 @@ module _ {number : ℕ} {upstream target stream out : List ℕ} {written fences 
         input-read = ran .accepts .input-read;
         input-own = ran .accepts .input-own;
         output = output;
-        output-read = subst (λ (l : List ℕ). Reads l output) (sym (ran .written)) (reads-written (length (on m .fences)) few output (placed .its));
-        accepted = accepted;
-        placing = placed;
-        kept = λ i j l k. kept-by-one (up m) (on m) input output i j (every-pair-kept (m .way) (up m) (on m) input output accepted i j l k);
-        fenced = λ j l. fence-exactly-when (m .way) (up m) (on m) input output accepted j l;
-        nothing-behind = nothing-at-the-end (m .way) (up m) (on m) input output accepted;
-        counted = ran .counted ∙ ap fenceBytes (ran .written) ∙ fence-bytes-are-fences (length (on m .fences)) few output (placed .its);
+        output-read = subst (λ (l : List ℕ). Reads l output) (sym (ran .written)) (reads-written (length (on m .fences)) few output own);
+        right = right;
+        counted = ran .counted ∙ ap fenceBytes (ran .written) ∙ fence-bytes-are-fences (length (on m .fences)) few output own;
         no-state = ran .no-state;
         fits = gave .fits;
         rest-kept = gave .rest;

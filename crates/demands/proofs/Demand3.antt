@@ -11,11 +11,10 @@ use Rattle.answers.specs.Given.{Delivers}
 use Rattle.rule.specs.declared.way.Way.{Way}
 use Rattle.rule.specs.Stream.{Stream, fences}
 use Rattle.rule.specs.Pairs.{Keeps}
-use Rattle.rule.specs.Rule.{wayNumber, done, run, Placing}
-use Rattle.rule.proofs.Theorems.{fewest-fences}
+use Rattle.rule.specs.Rule.{wayNumber, Placing}
 use Rattle.shims.specs.declared.Models.{Models}
 use Rattle.runs.specs.Call.{outcome}
-use Rattle.demands.specs.Streams.{Reads}
+use Rattle.demands.specs.Streams.{Reads, Right}
 use Rattle.demands.specs.Opened.{Opened, up, on}
 use Rattle.demands.specs.DirectRuns.{RunDone}
 use Rattle.demands.proofs.Accepted.{run-done}
@@ -36,9 +35,6 @@ module _ (upstream target stream : List ℕ) {out : List ℕ} {written inserted 
       let models : d .models ≡ m = opened-one (d .opened) o in
       let way : m .way ≡ Way.Full = full-way (m .way) (o .way-named) in
       let same : d .input ≡ input = reads-one stream (d .input) input (d .input-read) reads in
-      let ran : run (m .way) (up m) (on m) (d .input) ≡ done (d .output) =
-      subst (λ (x : Models). run (x .way) (up x) (on x) (d .input) ≡ done (d .output)) models (d .accepted) in
-      let full : run Way.Full (up m) (on m) input ≡ done (d .output) =
-      sym (ap (λ (w : Way). run w (up m) (on m) input) way) ∙ ap (run (m .way) (up m) (on m)) (sym same) ∙ ran in
-      let fewest = fewest-fences (up m) (on m) input (d .output) full other p k in
+      let right = subst (λ (x : Models). Right (x .way) (up x) (on x) (d .input) (d .output)) models (d .right) in
+      let fewest = subst (λ (s : Stream). Right (m .way) (up m) (on m) s (d .output)) same right .fewest way other p k in
       omega (arith, d .counted, fewest)

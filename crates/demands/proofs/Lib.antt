@@ -7,3 +7,4 @@ pub mod Demand1
 pub mod Accepted
 pub mod Demand2
 pub mod Demand3
+pub mod Walking

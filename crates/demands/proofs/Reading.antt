@@ -33,7 +33,7 @@ pub below-on : (n : ℕ) (op : Operation) (s : Stream) → OfN n op → Below n 
 below-on n (Operation.Access k) s h b = b
 below-on n (Operation.Fence f) s h b = (h, b)
 
-below-first : (n : ℕ) (op : Operation) (s : Stream) → Below n (op ∷ s) → OfN n op × Below n s
+pub below-first : (n : ℕ) (op : Operation) (s : Stream) → Below n (op ∷ s) → OfN n op × Below n s
 below-first n (Operation.Access k) s b = (tt, b)
 below-first n (Operation.Fence f) s b = b
 
@@ -95,7 +95,7 @@ is-bad n at b (no-such-fence f e l) =
     ap (judgedAs n at) e ∙ ap (λ (t : Bool). cond t (good (Operation.Fence f)) (bad (Refusal.NoSuchFence at))) (le-ltb f n l)
 
 -- what is read of bytes that are one more
-reads-first : (b : ℕ) (bytes : List ℕ) (op : Operation) (s : Stream) → Reads (b ∷ bytes) (op ∷ s) → (byteIs b ≡ Byte.Is op) × Reads bytes s
+pub reads-first : (b : ℕ) (bytes : List ℕ) (op : Operation) (s : Stream) → Reads (b ∷ bytes) (op ∷ s) → (byteIs b ≡ Byte.Is op) × Reads bytes s
 reads-first b bytes op s e = ((cc), (cc))
 
 pub reads-on : (b : ℕ) (bytes : List ℕ) (op : Operation) (s : Stream) → byteIs b ≡ Byte.Is op → Reads bytes s → Reads (b ∷ bytes) (op ∷ s)

@@ -11,12 +11,12 @@ use Rattle.operations.specs.declared.Kind.{Kind}
 use Rattle.operations.specs.declared.Operation.{Operation}
 use Rattle.operations.specs.declared.Byte.{Byte}
 use Rattle.operations.specs.Operation.{byteIs}
-use Rattle.rule.specs.Stream.{Stream, fence, count, through}
+use Rattle.rule.specs.Stream.{Stream, fence}
 use Rattle.rule.specs.Stream as streams
 use Rattle.rule.specs.Pairs.{settled}
-use Rattle.rule.specs.Rule.{done, run, Placing, NoneWillDo}
+use Rattle.rule.specs.Rule.{done, run, NoneWillDo}
 use Rattle.shims.specs.declared.Models.{Models}
-use Rattle.demands.specs.Streams.{Reads, Own, KeptByOne, FencedRight}
+use Rattle.demands.specs.Streams.{Reads, Own, Right}
 use Rattle.demands.specs.Opened.{Opened, up, on, OpeningRefused}
 
 -- A call that was accepted: `out` is the buffer before it and `after` the buffer after it.
@@ -30,13 +30,7 @@ pub record RunDone (number : ℕ) (upstream target stream out : List ℕ) (writt
   pub input-own : Own (up models) input
   pub output : Stream
   pub output-read : Reads (take written after) output
-  -- what was written is the rule's run of the stream
-  pub accepted : run (models .way) (up models) (on models) input ≡ done output
-  -- the same accesses in order, and target fences among them
-  pub placing : Placing (on models) input output
-  pub kept : (i j : ℕ) → i < j → j < count input → KeptByOne (up models) (on models) input output i j
-  pub fenced : (j : ℕ) → j < count input → FencedRight (models .way) (up models) (on models) input output j
-  pub nothing-behind : through (count output) output ≡ output
+  pub right : Right (models .way) (up models) (on models) input output
   -- the numbers, and the rest of the buffer
   pub counted : fences ≡ streams.fences output
   pub no-state : state ≡ 0

@@ -1,3 +1,4 @@
 pub mod Streams
 pub mod Opened
 pub mod DirectRuns
+pub mod Images

@@ -15,8 +15,9 @@ use Rattle.operations.specs.declared.Byte.{Byte}
 use Rattle.operations.specs.Operation.{byteIs}
 use Rattle.rule.specs.declared.way.Way.{Way}
 use Rattle.rule.specs.Stream.{Stream, fence, count, kindAt, HasFence, before, between, through}
-use Rattle.rule.specs.Pairs.{Model, fenceTable, isRow, isColumn, asked, settled, Settled}
-use Rattle.rule.specs.Rule.{Takes, everyFence}
+use Rattle.rule.specs.Stream as streams
+use Rattle.rule.specs.Pairs.{Model, fenceTable, isRow, isColumn, asked, Keeps, settled, Settled}
+use Rattle.rule.specs.Rule.{Takes, done, run, Placing, everyFence}
 
 -- each byte is the operation in its place
 abbrev pub Reads : List ℕ → Stream → Type 0
@@ -49,3 +50,15 @@ FencedRight way up target input output j =
     (NoneShort up target input output j → before j output ≡ through j output)
     × ((NoneShort up target input output j → ⊥)
     → (g : ℕ) × (before j output ≡ through j output ++ fence g) × TakenAt way up target input output j g)
+
+-- an output is right for an input: it is the rule's, with all that follows from that
+pub record Right (way : Way) (up target : Model) (input output : Stream) : Type 0 where
+  pub accepted : run way up target input ≡ done output
+  -- the same accesses in order, with fences of the target among them
+  pub placing : Placing target input output
+  pub kept : (i j : ℕ) → i < j → j < count input → KeptByOne up target input output i j
+  pub fenced : (j : ℕ) → j < count input → FencedRight way up target input output j
+  pub nothing-behind : through (count output) output ≡ output
+  -- in the full way no placing that keeps every pair has fewer fences
+  pub fewest : way ≡ Way.Full → (other : Stream) → Placing target input other → Keeps up target input other
+      → streams.fences output ≤ streams.fences other

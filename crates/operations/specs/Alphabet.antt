@@ -28,6 +28,10 @@ letterOf Kind.Cld = 1
 letterOf Kind.St = 2
 letterOf Kind.Cst = 3
 
--- the operation of a letter
+-- the letter of an operation, and the operation of a letter
+abbrev pub letterIn : Operation → ℕ
+letterIn (Operation.Access k) = letterOf k
+letterIn (Operation.Fence n) = accessLetters + n
+
 abbrev pub operationOf : ℕ → Operation
 operationOf a = cond (ltb a accessLetters) (Operation.Access (kindOf a)) (Operation.Fence (a - accessLetters))
