@@ -8,3 +8,4 @@ pub mod Accepted
 pub mod Demand2
 pub mod Demand3
 pub mod Walking
+pub mod Threads

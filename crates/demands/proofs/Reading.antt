@@ -15,7 +15,8 @@ use Rattle.answers.specs.declared.Refusal.{Refusal}
 use Rattle.operations.specs.declared.Kind.{Kind}
 use Rattle.operations.specs.declared.Operation.{Operation}
 use Rattle.operations.specs.declared.Byte.{Byte}
-use Rattle.operations.specs.Operation.{byteIs}
+use Rattle.operations.specs.Operation.{byteIs, byteOf}
+use Rattle.operations.proofs.Bytes.{written-read}
 use Rattle.rule.specs.Stream.{Stream}
 use Rattle.rule.specs.Rule.{everyFence}
 use Rattle.runs.specs.Bytes.{Judged, good, bad, judgedAs, judged, operationsFrom, operations, faultFrom, fault}
@@ -257,3 +258,12 @@ reads-one (b ∷ bytes) (op ∷ s) (o ∷ t) d e =
     let first : Byte.Is op ≡ Byte.Is o = sym (reads-first b bytes op s d .0) ∙ reads-first b bytes o t e .0 in
     let same : op ≡ o = cc in
     ap₂ (λ (x : Operation) (l : Stream). x ∷ l) same (reads-one bytes s t (reads-first b bytes op s d .1) (reads-first b bytes o t e .1))
+
+-- Bytes are those of the operations that they read as.
+pub written-bytes : (bytes : List ℕ) (s : Stream) → Reads bytes s → map byteOf s ≡ bytes
+written-bytes [] [] e = refl
+written-bytes [] (op ∷ s) e = differ (cc)
+written-bytes (b ∷ bytes) [] e = differ (cc)
+written-bytes (b ∷ bytes) (op ∷ s) e =
+    let first = reads-first b bytes op s e in
+    ap₂ (λ (c : ℕ) (l : List ℕ). c ∷ l) (written-read b op (first .0)) (written-bytes bytes s (first .1))

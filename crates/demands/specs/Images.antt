@@ -3,24 +3,30 @@
 use Prim.Native.Nat.{ℕ, _+_, _-_, _*_, _<_, _≤_}
 use mathlib.Core.Path.{_≡_}
 use mathlib.Core.Bool.{cond}
-use mathlib.Core.List.{List, [], _++_}
+use mathlib.Core.List.{List, [], _++_, map}
 use lib.Dec.{ltb, eqb}
 use lib.ListN.{length, take}
 use Rattle.ground.specs.Bytes.{at}
 use Rattle.answers.specs.declared.Answer as answers
 use Rattle.answers.specs.declared.Verdict.{Verdict}
-use Rattle.answers.specs.Given.{Given, gives, refuses, Delivers}
+use Rattle.answers.specs.Buffer.{answerWith}
+use Rattle.answers.specs.Given.{refuses, Delivers}
+use Rattle.operations.specs.Operation.{fenceBytes}
 use Rattle.operations.specs.Alphabet.{accessLetters, letterIn}
-use Rattle.rule.specs.Stream.{Stream}
+use Rattle.rule.specs.Stream.{Stream, fences}
 use Rattle.rule.specs.Rule.{wayNumber}
 use Rattle.shims.specs.declared.Models.{Models}
-use Rattle.mealy.specs.Runs.{Answer, refused, taken, Same}
+use Rattle.runs.specs.Bytes.{puts, direct}
+use Rattle.mealy.specs.Runs.{Answer, refused, taken, reached, Same}
 use Rattle.mealy.specs.Arrivals.{Described}
 use Rattle.machine.specs.Shim.{shim}
+use Rattle.machine.specs.Spoken.{machineOf}
 use Rattle.layout.specs.Layout.{blocksFor, position}
 use Rattle.layout.specs.Barred.{statesOf, upstreamFencesOf, targetFencesOf, verdictOf}
 use Rattle.image.specs.Image.{headerOf}
-use Rattle.image_runs.specs.Run.{runOver}
+use Rattle.image_runs.specs.declared.Stop.{Stop}
+use Rattle.image_runs.specs.Run.{refusalOf, runOver}
+use Rattle.demands.specs.Streams.{Reads, Own, Right}
 use Rattle.demands.specs.Opened.{up, on}
 
 -- what the bytes of a state's entry answer to a letter
@@ -44,3 +50,35 @@ pub record ImageOf (m : Models) (image : List ℕ) : Type 0 where
   pub target-name : headerOf image .target ≡ m .target .name .bytes
   pub size : length image ≡ 512 * blocksFor 1 (statesOf image)
   pub described : Described (shim (m .way) (up m) (on m)) (Same (shim (m .way) (up m) (on m))) (statesOf image) (entryAnswer image)
+
+-- the state of that machine to which a stream leads
+abbrev pub stateAfter : Models → List ℕ → Stream → ℕ
+stateAfter m image input = reached (machineOf (up m) (entryAnswer image)) (map letterIn input)
+
+-- A thread passed through an image block by block, each block a call of its own that starts in the state in which the last one ended: `given` is all
+-- that went in, `put` all that came out, `inserted` all the fences told, of any length.
+pub data Thread (image : List ℕ) : ℕ → List ℕ → List ℕ → ℕ → Type 0 where
+  fresh : Thread image 0 [] [] 0
+  block : {state next inserted written fences : ℕ} {given put out after : List ℕ} → Thread image state given put inserted
+      → (bytes : List ℕ) → Delivers (runOver image state bytes) out (answers.Answer.Done written fences next) after
+      → Thread image next (given ++ bytes) (put ++ take written after) (inserted + fences)
+
+-- what a thread has done: one run of the rule over all of it
+pub record ThreadDone (m : Models) (image : List ℕ) (state : ℕ) (given put : List ℕ) (inserted : ℕ) : Type 0 where
+  pub input : Stream
+  pub input-read : Reads given input
+  pub input-own : Own (up m) input
+  pub output : Stream
+  pub output-read : Reads put output
+  pub right : Right (m .way) (up m) (on m) input output
+  pub counted : inserted ≡ fences output
+  pub state-is : state ≡ stateAfter m image input
+  pub state-below : state < statesOf image
+
+-- The answer to the next block of a thread, where the buffer has this room, is what the one stream gets that all of it is: its further output with an end
+-- state, or its refusal, counted from the block's start.
+pub data AsOneStream (m : Models) (image given put block : List ℕ) (room : ℕ) : answers.Answer → Type 0 where
+  goes-on : (rest : List ℕ) (next : ℕ) → direct (m .way) (up m) (on m) (given ++ block) ≡ puts (put ++ rest) → next < statesOf image
+      → AsOneStream m image given put block room (answerWith rest (fenceBytes rest) next room)
+  stops : (why : Stop) (place : ℕ) → direct (m .way) (up m) (on m) (given ++ block) ≡ refuses (refusalOf why (length given + place))
+      → AsOneStream m image given put block room (answers.Answer.Refused (refusalOf why place))
