@@ -28,8 +28,8 @@ use Rattle.runs.specs.Bytes.{direct}
 use Rattle.runs.specs.Call.{runGiven, outcome}
 use Rattle.runs.proofs.ByMoves.{direct-moves}
 use Rattle.machine.specs.declared.machine.Outcome.{Outcome}
-use Rattle.machine.specs.Shim.{shim}
-use Rattle.machine.specs.Generated.{Making, named}
+use Rattle.machine.specs.Shim.{shim, shimOf}
+use Rattle.machine.specs.Generated.{Making, Unmade, roomless, named}
 use Rattle.machine.specs.Counted.{ManySituations, ManyStates}
 use Rattle.machine.proofs.Theorems.{refused-8-exactly-when, refused-9-exactly-when}
 use Rattle.making.specs.Made.{MachineMade}
@@ -62,9 +62,7 @@ imaged number upstream target image fences state h =
         → gives image fences state ≡ givenBy o (call .models) rows → Imaged number upstream target image
     by-outcome p (Outcome.Made x) rows g e =
         record { models = call .models; opens = p; machine = x; rows = rows; made = g; image-is = cc }
-    by-outcome p Outcome.Situations rows g e = differ (cc)
-    by-outcome p Outcome.States rows g e = differ (cc)
-    by-outcome p Outcome.Room rows g e = differ (cc)
+    by-outcome p (Outcome.Refused why) rows g e = differ (cc)
 
 module _ {number : ℕ} {upstream target image : List ℕ} (call : Imaged number upstream target image) where
   abbrev way : Way
@@ -191,42 +189,35 @@ module _ (models : Models) (given : Given) (is : MachineGiven models given) wher
   abbrev made-of : Outcome → Given
   made-of o = givenBy o models (is .rows)
 
+  -- a refusal that is given is the machine's
+  refused-as : (o : Outcome) {why : Refusal} → made-of o ≡ refuses why → o ≡ Outcome.Refused why
+  refused-as (Outcome.Made x) e = differ (cc)
+  refused-as (Outcome.Refused w) {why} e = let same : w ≡ why = cc in ap Outcome.Refused same
+
   -- Refusal 8 is given exactly when more than 4,096 situations can be reached.
   pub gives-8-exactly-when : (given ≡ refuses Refusal.TooManySituations) ↔ ManySituations (models .way) the-upstream the-target
   gives-8-exactly-when =
-      (λ e. exactly .0 (situations (is .outcome) (sym (is .gives-it) ∙ e)), λ m. is .gives-it ∙ ap made-of (exactly .1 m))
+      (λ e. exactly .0 (refused-as (is .outcome) (sym (is .gives-it) ∙ e)), λ m. is .gives-it ∙ ap made-of (exactly .1 m))
     where
-      exactly : (is .outcome ≡ Outcome.Situations) ↔ ManySituations (models .way) the-upstream the-target
+      exactly : (is .outcome ≡ Outcome.Refused Refusal.TooManySituations) ↔ ManySituations (models .way) the-upstream the-target
       exactly = refused-8-exactly-when the-shim ups targets blank (is .outcome) (is .rows) (is .made .generated)
-
-      situations : (o : Outcome) → made-of o ≡ refuses Refusal.TooManySituations → o ≡ Outcome.Situations
-      situations (Outcome.Made x) e = differ (cc)
-      situations Outcome.Situations e = refl
-      situations Outcome.States e = differ (cc)
-      situations Outcome.Room e = differ (cc)
 
   -- Refusal 9 is given exactly when the situations are not too many and the states are more than 255.
   pub gives-9-exactly-when : (given ≡ refuses Refusal.TooManyStates)
       ↔ ((ManySituations (models .way) the-upstream the-target → ⊥) × ManyStates (models .way) the-upstream the-target)
   gives-9-exactly-when =
-      (λ e. exactly .0 (states (is .outcome) (sym (is .gives-it) ∙ e)), λ m. is .gives-it ∙ ap made-of (exactly .1 m))
+      (λ e. exactly .0 (refused-as (is .outcome) (sym (is .gives-it) ∙ e)), λ m. is .gives-it ∙ ap made-of (exactly .1 m))
     where
-      exactly : (is .outcome ≡ Outcome.States)
+      exactly : (is .outcome ≡ Outcome.Refused Refusal.TooManyStates)
           ↔ ((ManySituations (models .way) the-upstream the-target → ⊥) × ManyStates (models .way) the-upstream the-target)
       exactly = refused-9-exactly-when the-shim ups targets blank (is .outcome) (is .rows) (is .made .generated)
 
-      states : (o : Outcome) → made-of o ≡ refuses Refusal.TooManyStates → o ≡ Outcome.States
-      states (Outcome.Made x) e = differ (cc)
-      states Outcome.Situations e = differ (cc)
-      states Outcome.States e = refl
-      states Outcome.Room e = differ (cc)
-
   -- The rows always have room, so 7 is never given for want of it, but only where the image exceeds the caller's buffer.
   pub never-7 : given ≡ refuses Refusal.BufferTooSmall → ⊥
-  never-7 e = look (is .outcome) (is .made) (sym (is .gives-it) ∙ e)
+  never-7 e = look (subst (λ (o : Outcome). MachineMade models blank o (is .rows)) (refused-as (is .outcome) (sym (is .gives-it) ∙ e)) (is .made))
     where
-      look : (o : Outcome) → MachineMade models blank o (is .rows) → made-of o ≡ refuses Refusal.BufferTooSmall → ⊥
-      look (Outcome.Made x) g h = differ (cc)
-      look Outcome.Situations g h = differ (cc)
-      look Outcome.States g h = differ (cc)
-      look Outcome.Room g h = omega (arith, g .generated .short, g .generated .few-states, length-replicate {A = ℕ} 5100 0)
+      short : Unmade (shimOf the-shim (named ups) (named targets)) blank Refusal.BufferTooSmall → ⊥
+      short (roomless f l d h) = omega (arith, h, l, length-replicate {A = ℕ} 5100 0)
+
+      look : MachineMade models blank (Outcome.Refused Refusal.BufferTooSmall) (is .rows) → ⊥
+      look g = short (g .generated .0)
