@@ -44,7 +44,7 @@ returns-2 : tie.Need-returns-2
 returns-2 c =
     let t = c .before in
     let a = t .before .before .before .before .before .args in
-    as-made (a .models) (now (a .rows)) (now (a .output)) (a .fences) (t .made .given .1) (delivers-refusal (now (a .out)))
+    as-made (a .models) (now (a .rows)) (now (a .output)) (a .fences) (t .made2 .given .1) (delivers-refusal (now (a .out)))
 
 pub list-made-spec : {M : Type 1} → statement M
 list-made-spec =
