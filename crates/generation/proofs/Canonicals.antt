@@ -1,11 +1,13 @@
 -- What is made of two models that were read is a machine of the layout: their names fill their fields, and every word of the rows is an access's or
 -- an upstream fence's. Assumes nothing.
-use Prim.Native.Nat.{ℕ, _+_, _-_, _≤_, _<_}
+use Prim.Native.Nat.{ℕ, _+_, _-_, _/_, _%_, _≤_, _<_}
 use mathlib.Core.Path.{_≡_, refl, sym, ap, subst, _∙_}
+use mathlib.Core.Bool.{Bool, true, false, cond}
 use mathlib.Core.Logic.{inl, inr}
 use mathlib.Core.List.{List, _++_}
 use native.Mathlib.Omega.{arith}
-use lib.Dec.{T}
+use borrow.Author.Tests.{lt-ltb, le-ltb}
+use lib.Dec.{T, eqb}
 use lib.ListN.{length, getD, replicate, length-append, length-replicate, getD-replicate, List·getD-append}
 use lib.Seq.{getD-append-add}
 use Rattle.ground.proofs.Truths.{differ, is-true}
@@ -24,17 +26,16 @@ use Rattle.models.proofs.Words.{told}
 use Rattle.texts.proofs.NamePart.{each-at}
 use Rattle.texts.specs.NamePart.{NameFormed}
 use Rattle.shims.specs.declared.Models.{Models}
-use Rattle.mealy.specs.Runs.{taken}
-use Rattle.mealy.specs.Arrivals.{arrival}
-use Rattle.mealy.proofs.Runs.{untaken, same-refl}
+use Rattle.mealy.specs.Runs.{refused, taken, Same}
+use Rattle.mealy.specs.Arrivals.{arrival, Entry}
+use Rattle.mealy.proofs.Runs.{untaken}
+use Rattle.mealy.proofs.Describing.{starts}
 use Rattle.machine.specs.declared.machine.Machine.{Machine}
-use Rattle.machine.specs.Shim.{shim}
-use Rattle.machine.specs.Rows.{decoded}
+use Rattle.machine.specs.Shim.{lettersOf, shim}
 use Rattle.machine.specs.Generated.{ProperWord, refusing, passing, Making}
 use Rattle.image.specs.Image.{word, NameField, AccessWord, FenceWord, Canonical}
 use Rattle.image.specs.declared.machine.Header.{Header}
 use Rattle.generation.specs.Generating.{headerFor}
-use Rattle.generation.proofs.Standing.{decoded-taken, fence-step, first-stands, Alike, halt, lead, alike}
 
 name-field : (n : List ℕ) → NameFormed n → NameField (n ++ replicate (16 - length n) 0)
 name-field n f =
@@ -83,26 +84,32 @@ module _ (way : Way) (up target : rule.Model) (ups-few : length (up .fences) ≤
   access-word w (passing (inl l) n) = inr (inl (omega (arith, made .its-targets)), n)
   access-word w (passing (inr e) n) = inr (inr e, n)
 
+  -- an upstream fence puts nothing out
+  fence-step : (s : Situation) (f : ℕ) → f < length (up .fences) → shim way up target .step s (4 + f) ≡ taken 255 (asks (rule.fenceTable up f) s)
+  fence-step s f l =
+      let e : 4 + f - 4 ≡ f = omega arith in
+      rw (lt-ltb (4 + f) (lettersOf up) (omega arith), le-ltb (4 + f) 4 (omega arith), e)
+
   fence-word : (s f : ℕ) → s < x .states → f < length (up .fences) → FenceWord header (word rows s (4 + f))
-  fence-word s f l k =
-      look
-      (subst (Alike way up target made (decoded (word rows s (4 + f)))) (fence-step way up target _ f k)
-      (alike way up target made s (reached-in s)
-      (record { within = l; same = same-refl (shim way up target) _ }) (4 + f) (omega arith)))
+  fence-word s f l k = look (eqb (word rows s (4 + f) / 256) 254) (made .states .rows s (4 + f) l (omega arith))
     where
-      look : Alike way up target made (decoded (word rows s (4 + f))) (taken 255 (asks (rule.fenceTable up f) (reached-in s)))
-          → FenceWord header (word rows s (4 + f))
-      look (halt p q) = absurd (untaken (sym q))
-      look (lead o j t p q st) =
-          let d = decoded-taken (word rows s (4 + f)) o j p in
-          let e : o ≡ 255 = cc in
-          (d .0 ∙ e, omega (arith, d .1, st .within))
+      w : ℕ
+      w = word rows s (4 + f)
+
+      look : (b : Bool)
+          → Entry (shim way up target) (Same (shim way up target)) (made .states .streams) s (4 + f) (cond b refused (taken (w / 256) (w % 256)))
+          → FenceWord header w
+      look true e = absurd (untaken (sym e ∙ fence-step (reached-in s) f k))
+      look false (t, e, below, same) =
+          let z : taken (w / 256) t ≡ taken 255 (asks (rule.fenceTable up f) (reached-in s)) = sym e ∙ fence-step (reached-in s) f k in
+          let fence : w / 256 ≡ 255 = cc in
+          (fence, omega (arith, below, made .states .count))
 
   pub canonical : Canonical header rows
   canonical =
       record {
         way = omega (arith, made .way-number, way-bit way);
-        some = first-stands way up target made .within;
+        some = starts (shim way up target) (Same (shim way up target)) (made .states) (λ s t r. r) .0;
         states = made .few-states;
         ups = omega (arith, made .its-ups);
         targets = omega (arith, made .its-targets);

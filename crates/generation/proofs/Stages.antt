@@ -6,7 +6,7 @@ use mathlib.Core.List.{List}
 use native.Mathlib.Omega.{arith}
 use Rattle.answers.specs.declared.Refusal.{Refusal}
 use Rattle.answers.specs.declared.Answer.{Answer}
-use Rattle.answers.specs.Given.{gives, refuses, Delivers, Answers}
+use Rattle.answers.specs.Given.{gives, Delivers, Answers}
 use Rattle.answers.proofs.Given.{delivers-refusal, delivers-as}
 use Rattle.rule.specs.declared.way.Way.{Way}
 use Rattle.rule.specs.Rule.{wayNumber}
@@ -23,9 +23,8 @@ use Rattle.generation.specs.inner.Small.{SmallMade}
 
 module _ (m : Models) (rows : List ℕ) {o : Outcome} where
   -- no machine is made
-  pub none-made : {why : Refusal} {p : Outcome} {out : List ℕ} → o ≡ p → givenBy p m rows ≡ refuses why
-      → Delivers (givenBy o m rows) out (Answer.Refused why) out
-  none-made {out = out} e f = delivers-as (sym (ap (λ (p : Outcome). givenBy p m rows) e ∙ f)) (delivers-refusal out)
+  pub none-made : {why : Refusal} (out : List ℕ) → o ≡ Outcome.Refused why → Delivers (givenBy o m rows) out (Answer.Refused why) out
+  none-made out e = delivers-as (sym (ap (λ (p : Outcome). givenBy p m rows) e)) (delivers-refusal out)
 
   -- one is made, and its image is written
   pub one-made : {x : Machine} {h : Header} {out after : List ℕ} {r : Answer} → o ≡ Outcome.Made x → h ≡ headerFor x m
@@ -48,9 +47,7 @@ small-made m rows (Outcome.Made x) rows′ made =
       ups = omega (arith, g .its-ups, at-most-sixteen (modelOf (m .upstream) .fences) refl);
       targets = omega (arith, g .its-targets, at-most-sixteen (modelOf (m .target) .fences) refl);
     }
-small-made m rows Outcome.Situations rows′ made = tt
-small-made m rows Outcome.States rows′ made = tt
-small-made m rows Outcome.Room rows′ made = tt
+small-made m rows (Outcome.Refused why) rows′ made = tt
 
 -- what is delivered once the machine is made, or cannot be, is what is given
 pub given-made : {m : Models} {o : Outcome} {rows out after : List ℕ} {r : Answer} → MachineMade m blank o rows

@@ -4,28 +4,28 @@ use mathlib.Core.Path.{_≡_, sym, ap₂, _∙_}
 use mathlib.Core.List.{List}
 use Rattle.answers.specs.declared.Answer.{Answer}
 use Rattle.answers.specs.Given.{Given, Answers}
-use Rattle.answers.proofs.Given as given
+use Rattle.answers.proofs.Given.{delivers-one}
 use Rattle.shims.specs.declared.Models.{Models}
 use Rattle.shims.specs.Opening.{opened}
 use Rattle.shims.proofs.Calls.{given-one}
 use Rattle.machine.specs.declared.machine.Outcome.{Outcome}
-use Rattle.making.proofs.Unique.{made-one}
+use Rattle.making.proofs.Unique.{make-one}
 use Rattle.generation.specs.Generating.{givenBy, blank, MachineGiven, ImageGiven}
 
 machine-one : (m : Models) (g h : Given) → MachineGiven m g → MachineGiven m h → g ≡ h
 machine-one m g h a b =
-    let e = made-one m blank (a .outcome) (b .outcome) (a .made) (b .made) in
+    let e = make-one m blank (a .made) (b .made) in
     a .gives-it
     ∙ ap₂ (λ (o : Outcome) (rows : List ℕ). givenBy o m rows) (e .0) (e .1)
     ∙ sym (b .gives-it)
 
--- One thing alone is given,
+-- one thing alone is given
 pub one-given : (number : ℕ) (upstream target : List ℕ) (g h : Given)
     → ImageGiven number upstream target g → ImageGiven number upstream target h → g ≡ h
 one-given number upstream target = given-one (opened number upstream target) MachineGiven machine-one
 
--- and so there is one answer and one final buffer.
-pub one-answer : (number : ℕ) (upstream target : List ℕ) {out after after′ : List ℕ} {r r′ : Answer}
-    → Answers (ImageGiven number upstream target) out r after
-    → Answers (ImageGiven number upstream target) out r′ after′ → (r ≡ r′) × (after ≡ after′)
-one-answer number upstream target = given.one-answer (one-given number upstream target)
+pub generate-one : (way : ℕ) (upstream target out : List ℕ) {r r′ : Answer} {after after′ : List ℕ}
+    → Answers (ImageGiven way upstream target) out r after → Answers (ImageGiven way upstream target) out r′ after′
+    → (r ≡ r′) × (after ≡ after′)
+generate-one way upstream target out p q =
+    delivers-one (one-given way upstream target (p .given) (q .given) (p .right) (q .right)) (p .delivered) (q .delivered)

@@ -4,7 +4,6 @@ use Prim.Native.Nat.{ℕ, _*_}
 use mathlib.Core.Path.{_≡_}
 use mathlib.Core.List.{List}
 use lib.ListN.{replicate}
-use Rattle.answers.specs.declared.Refusal.{Refusal}
 use Rattle.answers.specs.Given.{Given, gives, refuses}
 use Rattle.operations.specs.Alphabet.{stride}
 use Rattle.shims.specs.declared.Models.{Models}
@@ -30,11 +29,9 @@ headerFor x m =
 -- what is given once the machine is made, or cannot be
 abbrev pub givenBy : Outcome → Models → List ℕ → Given
 givenBy (Outcome.Made x) m rows = gives (imageOf (headerFor x m) rows) 0 0
-givenBy Outcome.Situations m rows = refuses Refusal.TooManySituations
-givenBy Outcome.States m rows = refuses Refusal.TooManyStates
-givenBy Outcome.Room m rows = refuses Refusal.BufferTooSmall
+givenBy (Outcome.Refused why) m rows = refuses why
 
--- the rows that the machine is made in hold 255 states, so that `Room` does not come about
+-- the rows that the machine is made in hold 255 states, so that 7 does not come about
 abbrev pub blank : List ℕ
 blank = replicate (255 * stride) 0
 

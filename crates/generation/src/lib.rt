@@ -4,7 +4,6 @@ ghost use Rattle.answers.specs.Given.{Delivers, Answers};
 ghost use Rattle.generation.specs.Generating.{headerFor, givenBy, MachineGiven, ImageGiven};
 ghost use Rattle.generation.specs.inner.Small.{Small, SmallMade};
 use answers::Answer;
-use answers::Refusal;
 use answers::Verdict;
 use image::machine::Header;
 use machine::machine::Machine;
@@ -40,9 +39,7 @@ fn write_made(made: Outcome, models: Models, rows: &[u16], out: &mut [u8]) -> An
 {
     match made {
         Outcome::Made(machine) => image::writer::write(header_for(machine, models), rows, out),
-        Outcome::Situations => Answer::Refused(Refusal::TooManySituations),
-        Outcome::States => Answer::Refused(Refusal::TooManyStates),
-        Outcome::Room => Answer::Refused(Refusal::BufferTooSmall),
+        Outcome::Refused(why) => Answer::Refused(why),
     }
 }
 

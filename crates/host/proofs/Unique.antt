@@ -11,7 +11,7 @@ use Rattle.comparison.specs.declared.Compared.{Compared}
 use Rattle.image.specs.Calls.{Rewrites}
 use Rattle.image.proofs.Unique.{rewrites-one}
 use Rattle.listing.specs.Listed.{Listed}
-use Rattle.listing.proofs.Unique.{one-answer}
+use Rattle.listing.proofs.Unique as listed
 use Rattle.generation.specs.Generating.{ImageGiven}
 use Rattle.generation.proofs.Unique as generated
 use Rattle.host.specs.Border.{numberIn, Tells, TellsRelation}
@@ -50,14 +50,14 @@ image-read-one image a b =
 -- and `shim_list`
 pub list-one : {input out : List ℕ} {n n′ : ℕ} {numbers numbers′ after after′ : List ℕ} → Tells (Answers (Listed input) out) n numbers after
     → Tells (Answers (Listed input) out) n′ numbers′ after′ → (n ≡ n′) × (numbers ≡ numbers′) × (after ≡ after′)
-list-one a b = tells-one (λ x y s t p q. one-answer p q) a b
+list-one a b = tells-one (λ x y s t p q. listed.list-one _ _ p q) a b
 
 -- and `shim_generate`
 pub generate-one : (number : ℕ) (upstream target : List ℕ) {out : List ℕ} {n n′ : ℕ} {numbers numbers′ after after′ : List ℕ}
     → Tells (Answers (ImageGiven number upstream target) out) n numbers after
     → Tells (Answers (ImageGiven number upstream target) out) n′ numbers′ after′
     → (n ≡ n′) × (numbers ≡ numbers′) × (after ≡ after′)
-generate-one number upstream target a b = tells-one (λ x y s t p q. generated.one-answer number upstream target p q) a b
+generate-one number upstream target a b = tells-one (λ x y s t p q. generated.generate-one number upstream target _ p q) a b
 
 -- and `shim_compare`
 pub compare-one : (compared : Compared) {n n′ relation relation′ : ℕ} {numbers numbers′ : List ℕ} → TellsRelation compared n relation numbers

@@ -6,4 +6,5 @@ pub mod Fits
 pub mod Direct
 pub mod Made
 pub mod Stages
+pub mod Determined
 pub mod Unique

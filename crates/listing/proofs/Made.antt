@@ -8,9 +8,10 @@ use native.Mathlib.Omega.{arith}
 use lib.Dec.{eqb}
 use lib.ListN.{length}
 use Rattle.ground.specs.Bytes.{at}
+use Rattle.answers.specs.declared.Refusal.{Refusal}
 use Rattle.answers.specs.declared.Answer.{Answer}
 use Rattle.answers.specs.declared.Verdict.{Verdict}
-use Rattle.answers.specs.Given.{gives, Delivers, Answers}
+use Rattle.answers.specs.Given.{gives, refuses, Delivers, Answers}
 use Rattle.operations.specs.declared.Operation.{Operation}
 use Rattle.operations.specs.declared.Byte.{Byte}
 use Rattle.operations.specs.Operation.{byteIs, isFence, fenceBytes}
@@ -28,7 +29,8 @@ use Rattle.mealy.specs.Runs.{refused, taken}
 use Rattle.machine.specs.declared.machine.Machine.{Machine}
 use Rattle.machine.specs.declared.machine.Outcome.{Outcome}
 use Rattle.machine.specs.Rows.{decoded, answerAt}
-use Rattle.machine.specs.Generated.{Built}
+use Rattle.machine.specs.Generated as machine
+use Rattle.machine.specs.Generated.{Unmade, Built}
 use Rattle.making.specs.Made.{MachineMade}
 use Rattle.making.proofs.Read.{made-read}
 use Rattle.listing.specs.Printed.{nextState, listing}
@@ -64,21 +66,22 @@ module _ (m : Models) (sixteen : Sixteen m) (output : List ℕ) (fences : ℕ) (
         short-output = ran .fits;
         few-fences = omega (arith, ran .fits, ran .count, fences-few output);
       }
-  listable Outcome.Situations b = tt
-  listable Outcome.States b = tt
-  listable Outcome.Room b = tt
+  listable (Outcome.Refused why) b = tt
 
   listed-as : (x : Machine) → x .ups ≡ length (modelOf (m .upstream) .fences)
       → gives (listedText m output (x .states) (answerAt rows′)) (fenceBytes output) 0 ≡ madeGiven (Outcome.Made x) m rows′ output fences
   listed-as x e =
       ap₂ (λ (n f : ℕ). gives (listing (listingOf m (x .states) (lettersWith n) (answerAt rows′) output f)) f 0) (sym e) (sym (ran .count))
 
+  unlisted : {why : Refusal} → Unmade (ruleOf m) rows why → MachineListed m output (refuses why)
+  unlisted (machine.crowded h) = crowded h
+  unlisted (machine.overfull f h) = overfull f h
+  unlisted (machine.roomless f l d h) = absurd (omega (arith, h, l, size))
+
   listed : (r : Outcome) → Makes r → MachineListed m output (madeGiven r m rows′ output fences)
   listed (Outcome.Made x) b =
       subst (MachineListed m output) (listed-as x (b .its-ups)) (made (b .few-situations) (b .few-states) (b .states))
-  listed Outcome.Situations b = crowded (b .many)
-  listed Outcome.States b = overfull (b .few-situations) (b .many)
-  listed Outcome.Room b = absurd (omega (arith, b .short, b .few-states, size))
+  listed (Outcome.Refused why) b = unlisted (b .0)
 
   pub made-listable : (r : Outcome) → MachineMade m rows r rows′ → MadeListable r rows′ output fences
   made-listable r g = listable r (made-read m (sixteen .upstream) (sixteen .target) g)

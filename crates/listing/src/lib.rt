@@ -61,9 +61,7 @@ fn list_made<'a>(
 {
     match made {
         Outcome::Made(machine) => write_listing(models, machine, rows, output, fences, out),
-        Outcome::Situations => Answer::Refused(Refusal::TooManySituations),
-        Outcome::States => Answer::Refused(Refusal::TooManyStates),
-        Outcome::Room => Answer::Refused(Refusal::BufferTooSmall),
+        Outcome::Refused(why) => Answer::Refused(why),
     }
 }
 

@@ -12,6 +12,7 @@ pub mod Breadth
 pub mod Finish
 pub mod Zeros
 pub mod Stages
+pub mod Determined
 pub mod Unique
 pub mod Spelling
 pub mod Speaking

@@ -30,7 +30,7 @@ use Rattle.machine.specs.Counted.{SameSituation, SameState, NumberOf, Ma
 use Rattle.machine.specs.declared.machine.Machine.{Machine}
 use Rattle.machine.specs.declared.machine.Outcome.{Outcome}
 use Rattle.machine.proofs.Zeros.{at-most-sixteen}
-use Rattle.machine.proofs.Unique.{too-few}
+use Rattle.machine.proofs.Determined.{too-few}
 use Rattle.machine.proofs.Spelling.{ranAs, spoken-gets, ends-spelt}
 use Rattle.machine.proofs.Speaking.{goes-on, shim-like}
 use Rattle.machine.proofs.Counting.{run-accepted, accepted-run, same-state, many-situations, many-states}

@@ -1,3 +1,4 @@
+// What generating comes to.
 use answers::Refusal;
 
 // A machine's numbers. Its rows stand in an array of their own: a word for each state and letter, at a stride of 20, which is 256 times the fence

@@ -38,14 +38,9 @@ fn print_outcome(outcome: Outcome) {
             io::write_all(1, b"/");
             io::print_decimal(1, x.states as u64);
         }
-        Outcome::Situations => {
-            io::write_all(1, b"refused 8");
-        }
-        Outcome::States => {
-            io::write_all(1, b"refused 9");
-        }
-        Outcome::Room => {
-            io::write_all(1, b"refused 7");
+        Outcome::Refused(why) => {
+            io::write_all(1, b"refused ");
+            io::print_decimal(1, why.number());
         }
     }
 }

@@ -1,5 +1,5 @@
 -- `write_made` meets its contract: an outcome without a machine is its refusal. Assumes nothing.
-use mathlib.Core.Path.{refl, subst}
+use mathlib.Core.Path.{subst}
 use borrow.Author.Needs.{needs}
 use Rattle.generation.specs.inner.Small.{SmallMade}
 use Rattle.generation.proofs.Stages.{none-made, one-made}
@@ -16,14 +16,8 @@ header-for-requires c κs =
 write-requires : tie.Need-write-requires
 write-requires c κs = search needs
 
-enum-told : tie.Need-enum-told
-enum-told c = search needs
-
-enum-told-2 : tie.Need-enum-told-2
-enum-told-2 c = search needs
-
-enum-told-3 : tie.Need-enum-told-3
-enum-told-3 c = search needs
+enum-known-made-2 : tie.Need-enum-known-made-2
+enum-known-made-2 c = search needs
 
 same-length : tie.Need-same-length
 same-length c = search needs
@@ -32,13 +26,7 @@ returns : tie.Need-returns
 returns c = search (one-made, needs)
 
 returns-2 : tie.Need-returns-2
-returns-2 c = none-made _ _ (c .enum-told .given .1) refl
-
-returns-3 : tie.Need-returns-3
-returns-3 c = none-made _ _ (c .enum-told2 .given .1) refl
-
-returns-4 : tie.Need-returns-4
-returns-4 c = none-made _ _ (c .enum-told3 .given .1) refl
+returns-2 c = search (none-made, needs)
 
 pub write-made-spec : {M : Type 1} → statement M
 write-made-spec =
@@ -47,11 +35,7 @@ write-made-spec =
     enum-known-made
     header-for-requires
     write-requires
-    enum-told
-    enum-told-2
-    enum-told-3
+    enum-known-made-2
     same-length
     returns
-    returns-2
-    returns-3
-    returns-4)
+    returns-2)

@@ -11,6 +11,4 @@ pub record Small (x : Machine) : Type 0 where
 
 abbrev pub SmallMade : Outcome → Type 0
 SmallMade (Outcome.Made x) = Small x
-SmallMade Outcome.Situations = Unit {0}
-SmallMade Outcome.States = Unit {0}
-SmallMade Outcome.Room = Unit {0}
+SmallMade (Outcome.Refused why) = Unit {0}

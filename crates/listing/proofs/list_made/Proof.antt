@@ -27,14 +27,8 @@ write-listing-requires c κs =
     let a = o .args in
     subst (λ (x : Outcome). MadeListable x (now (a .rows)) (now (a .output)) (a .fences)) (c .before .before .made .given .1) (o .pre)
 
-enum-told : tie.Need-enum-told
-enum-told c = search needs
-
-enum-told-2 : tie.Need-enum-told-2
-enum-told-2 c = search needs
-
-enum-told-3 : tie.Need-enum-told-3
-enum-told-3 c = search needs
+enum-known-made-2 : tie.Need-enum-known-made-2
+enum-known-made-2 c = search needs
 
 same-length : tie.Need-same-length
 same-length c = search needs
@@ -48,18 +42,9 @@ returns c =
 
 returns-2 : tie.Need-returns-2
 returns-2 c =
-    let a = c .before .before .before .before .before .args in
-    as-made (a .models) (now (a .rows)) (now (a .output)) (a .fences) (c .enum-told .given .1) (delivers-refusal (now (a .out)))
-
-returns-3 : tie.Need-returns-3
-returns-3 c =
-    let a = c .before .before .before .before .before .args in
-    as-made (a .models) (now (a .rows)) (now (a .output)) (a .fences) (c .enum-told2 .given .1) (delivers-refusal (now (a .out)))
-
-returns-4 : tie.Need-returns-4
-returns-4 c =
-    let a = c .before .before .before .before .before .args in
-    as-made (a .models) (now (a .rows)) (now (a .output)) (a .fences) (c .enum-told3 .given .1) (delivers-refusal (now (a .out)))
+    let t = c .before in
+    let a = t .before .before .before .before .before .args in
+    as-made (a .models) (now (a .rows)) (now (a .output)) (a .fences) (t .made2 .given .1) (delivers-refusal (now (a .out)))
 
 pub list-made-spec : {M : Type 1} → statement M
 list-made-spec =
@@ -67,11 +52,7 @@ list-made-spec =
     (tie.spec
     enum-known-made
     write-listing-requires
-    enum-told
-    enum-told-2
-    enum-told-3
+    enum-known-made-2
     same-length
     returns
-    returns-2
-    returns-3
-    returns-4)
+    returns-2)

@@ -1,7 +1,6 @@
 -- How the call goes on once the machine is made.
 use Prim.Native.Nat.{ℕ}
 use mathlib.Core.List.{List}
-use Rattle.answers.specs.declared.Refusal.{Refusal}
 use Rattle.answers.specs.Given.{Given, gives, refuses}
 use Rattle.operations.specs.Alphabet.{lettersWith}
 use Rattle.shims.specs.declared.Models.{Models}
@@ -19,12 +18,8 @@ madeListing m x rows output fences = listingOf m (x .states) (lettersWith (x .up
 -- what is given for an outcome
 abbrev pub madeGiven : Outcome → Models → List ℕ → List ℕ → ℕ → Given
 madeGiven (Outcome.Made x) m rows output fences = gives (listing (madeListing m x rows output fences)) fences 0
-madeGiven Outcome.Situations m rows output fences = refuses Refusal.TooManySituations
-madeGiven Outcome.States m rows output fences = refuses Refusal.TooManyStates
-madeGiven Outcome.Room m rows output fences = refuses Refusal.BufferTooSmall
+madeGiven (Outcome.Refused why) m rows output fences = refuses why
 
 abbrev pub MadeListable : Outcome → List ℕ → List ℕ → ℕ → Type 0
 MadeListable (Outcome.Made x) rows output fences = Listable x rows output fences
-MadeListable Outcome.Situations rows output fences = Unit {0}
-MadeListable Outcome.States rows output fences = Unit {0}
-MadeListable Outcome.Room rows output fences = Unit {0}
+MadeListable (Outcome.Refused why) rows output fences = Unit {0}

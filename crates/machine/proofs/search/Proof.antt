@@ -1,4 +1,6 @@
 -- `search` meets its contract: what exploring finds is too many situations, or what `sort` is entered with. Assumes nothing.
+use mathlib.Core.Path.{refl}
+use native.Mathlib.Omega.{arith}
 use borrow.Author.Needs.{needs}
 use Rattle.machine.proofs.Stages.{survey-crowded, survey-searched}
 use Rattle.machine.proofs.search.Statement.{statement}
@@ -11,7 +13,7 @@ same-length : tie.Need-same-length
 same-length c = search needs
 
 returns : tie.Need-returns
-returns c = search (survey-crowded, needs)
+returns c = (survey-crowded (c .before .before .before .explore .ensures) (omega (arith, c .if1 .taken)) _, refl)
 
 sort-requires : tie.Need-sort-requires
 sort-requires c κs = search (survey-searched, needs)
