@@ -13,11 +13,17 @@ use Rattle.answers.specs.declared.Answer.{Answer}
 use Rattle.answers.specs.Answer.{numberOf, placeOf, numbersOf}
 use Rattle.answers.specs.Given.{Given, gives, refuses, Delivers, Answers}
 use Rattle.operations.specs.Operation.{byteOf}
-use Rattle.runs.specs.Bytes.{puts}
+use Rattle.shims.specs.declared.Models.{Models}
 use Rattle.runs.specs.Call.{outcome}
 use Rattle.demands.specs.DirectRuns.{RunRefused, opening, over-limit, no-operation, no-such-fence, no-fence-will-do, too-small}
+use Rattle.generation.specs.Generating.{ImageGiven}
+use Rattle.demands.specs.Generated as generate
+use Rattle.demands.specs.Generated.{GenerateRefused, situations, states, ImageExceeds}
 use Rattle.demands.proofs.Delivered.{Withheld, refused, exceeds, refused-withheld, withheld-refused}
 use Rattle.demands.proofs.Direct.{DirectIs, puts-out, at-4, at-5, at-6}
+use Rattle.demands.proofs.Generating as generating
+use Rattle.demands.proofs.Generating.{MachineIs, crowded, overfull, made, GenerateIs, opens, generate-is, unopened-is, same-length}
+use Rattle.demands.proofs.Generating.{given-models, as-8, as-9, machine-is}
 use Rattle.demands.proofs.Running.{RunIs, unopened, over, runs, run-is, is-run}
 
 -- A refused call tells its number and place and zeros, and leaves every byte of the buffer as it was: of every call that writes, whatever it has to give.
@@ -80,3 +86,45 @@ module _ {number : ℕ} {upstream target stream out : List ℕ} {r : Answer} {af
           exceeds (is-run number upstream target stream
           (runs o l (puts-out (record { input = x .input; input-read = x .input-read; input-own = x .input-own; accepted = x .accepted }))))
           (omega (arith, x .exceeds, length-map (x .output) byteOf))
+
+-- Generating is refused exactly when 01 says.
+module _ (number : ℕ) (upstream target : List ℕ) {out : List ℕ} {r : Answer} {after : List ℕ}
+    (call : Answers (ImageGiven number upstream target) out r after) where
+  pub generate-refused-exactly-when : (why : Refusal) → (r ≡ Answer.Refused why) ↔ GenerateRefused number upstream target (length out) why
+  generate-refused-exactly-when why = (
+    λ e.
+        by-call (generate-is number upstream target (call .given) (call .right))
+        (refused-withheld (subst (λ (x : Answer). Delivers (call .given) out x after) e (call .delivered)) .1),
+    λ h. withheld-refused (call .delivered) (told-given h),
+  )
+    where
+      as-told : {v w : Refusal} → GenerateRefused number upstream target (length out) v → refuses v ≡ refuses w
+          → GenerateRefused number upstream target (length out) w
+      as-told {v} {w} h e =
+          let same : v ≡ w = cc in
+          subst (GenerateRefused number upstream target (length out)) same h
+
+      by-call : {g : Given} → GenerateIs number upstream target g → {w : Refusal} → Withheld g (length out) w
+          → GenerateRefused number upstream target (length out) w
+      by-call (generating.unopened o) (refused e) = as-told (generate.opening o) e
+      by-call (generating.unopened o) (exceeds e l) = differ (cc)
+      by-call (opens o (crowded h)) (refused e) = as-told (situations o h) e
+      by-call (opens o (crowded h)) (exceeds e l) = differ (cc)
+      by-call (opens o (overfull f h)) (refused e) = as-told (states o f h) e
+      by-call (opens o (overfull f h)) (exceeds e l) = differ (cc)
+      by-call (opens o (made f h i)) (refused e) = differ (cc)
+      by-call (opens o (made {image = image} f h i)) (exceeds {bytes = bytes} e l) =
+          let same : image ≡ bytes = cc in
+          generate.too-small o
+          (record { few-situations = f; few-states = h; bytes = image; image = i; exceeds = omega (arith, l, ap length same) })
+
+      small : {m : Models} {g : Given} → ImageExceeds m (length out) → MachineIs m g → Withheld g (length out) Refusal.BufferTooSmall
+      small x (crowded h) = absurd (x .few-situations h)
+      small x (overfull f h) = absurd (x .few-states h)
+      small x (made f h i) = exceeds refl (omega (arith, x .exceeds, same-length i (x .image)))
+
+      told-given : {w : Refusal} → GenerateRefused number upstream target (length out) w → Withheld (call .given) (length out) w
+      told-given (generate.opening o) = refused (unopened-is o (call .right))
+      told-given (situations o h) = refused (as-8 o (given-models o .0 (call .right)) .1 h)
+      told-given (states o f h) = refused (as-9 o (given-models o .0 (call .right)) .1 (f, h))
+      told-given (generate.too-small o x) = small x (machine-is o (given-models o .0 (call .right)))

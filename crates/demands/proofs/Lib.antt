@@ -1,11 +1,12 @@
 pub mod Reading
 pub mod Opening
-pub mod Direct
 pub mod Delivered
+pub mod Direct
 pub mod Running
-pub mod Demand1
 pub mod Accepted
-pub mod Demand2
-pub mod Demand3
 pub mod Walking
 pub mod Threads
+pub mod Generating
+pub mod Demand1
+pub mod Demand2
+pub mod Demand3

@@ -2,3 +2,4 @@ pub mod Streams
 pub mod Opened
 pub mod DirectRuns
 pub mod Images
+pub mod Generated
