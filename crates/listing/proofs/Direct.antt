@@ -23,7 +23,7 @@ use Rattle.listing.specs.inner.Limits.{RunOutput}
 use Rattle.listing.proofs.Output.{is-done, longest-output, most-fences}
 
 -- so a direct run gives bytes, at most so many, with their fences counted; or a refusal
-abbrev Short : Given → Type 0
+abbrev pub Short : Given → Type 0
 Short (gives bytes fences state) = (length bytes ≤ 8191) × (fenceBytes bytes ≤ 4095) × (fences ≡ fenceBytes bytes) × (state ≡ 0)
 Short (refuses why) = Unit {0}
 

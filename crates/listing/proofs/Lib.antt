@@ -9,3 +9,4 @@ pub mod Made
 pub mod Stages
 pub mod Determined
 pub mod Unique
+pub mod Theorems
