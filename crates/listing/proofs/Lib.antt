@@ -3,8 +3,10 @@ pub mod Endings
 pub mod Printing
 pub mod Longest
 pub mod Fits
+pub mod Output
 pub mod Direct
 pub mod Made
 pub mod Stages
 pub mod Determined
 pub mod Unique
+pub mod Theorems

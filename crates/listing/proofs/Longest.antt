@@ -1,8 +1,12 @@
--- The longest listing: 42 bytes of names and way, 11 of the states' number, 12 for each of 20 letters of 255 states, 8,197 of output and 12 of
--- fences. So every listing fits 73,728 bytes, and the line of a refusal 53. Assumes nothing.
+-- The longest listing: 42 bytes of names and way, 11 of the states' number, 59,000 of lines, 8,196 of output and 12 of fences. A state has 20 lines,
+-- each of 9 bytes and the digits of its number, which are one for 10 of 255 states, two for 90 and three for 155. So every listing fits 73,728 bytes,
+-- and the line of a refusal 53. Assumes nothing.
 use Prim.Native.Nat.{ℕ, zero, suc, _+_, _*_, _^_, _≤_, _<_}
+use mathlib.Core.Path.{_≡_, refl}
 use mathlib.Core.List.{List, [], _∷_, _++_}
 use native.Mathlib.Omega.{arith}
+use native.Mathlib.Nat.{suc-mul}
+use native.Mathlib.Decide.{decLt}
 use lib.ListN.{length, length-append}
 use Rattle.ground.specs.Bytes.{bytes}
 use Rattle.operations.specs.Alphabet.{operationOf}
@@ -33,40 +37,74 @@ names-length u t way lu lt =
       way-length way,
     )
 
-out-length : (output : List ℕ) → length output ≤ 8192 → length (outLine output) ≤ 8197
+out-length : (output : List ℕ) → length output ≤ 8191 → length (outLine output) ≤ 8196
 out-length output h = omega (arith, length-append output (bytes "\n"))
 
-step-length : (s a : ℕ) (x : Answer ℕ ℕ) → s < 1000 → nextState x < 1000 → length (stepLine s a x) ≤ 12
-step-length s a x hs hx =
+-- of a state whose number has at most d digits
+step-length : (s a : ℕ) (x : Answer ℕ ℕ) (d : ℕ) → length (decimal s) ≤ d → nextState x < 1000 → length (stepLine s a x) ≤ d + 9
+step-length s a x d hs hx =
     let last : List ℕ = decimal (nextState x) ++ bytes "\n" in
     omega (
       arith,
       length-append (decimal s) ((32 ∷ byteOf (operationOf a) ∷ 32 ∷ fenceMark x ∷ 32 ∷ []) ++ last),
       length-append (decimal (nextState x)) (bytes "\n"),
-      length-digits 2 s hs,
+      hs,
       length-digits 2 (nextState x) hx,
     )
 
-state-length : (s : ℕ) (row : ℕ → Answer ℕ ℕ) (n : ℕ) → s < 1000 → ((a : ℕ) → nextState (row a) < 1000) → length (stateLines s row n) ≤ 12 * n
+state-length : (s : ℕ) (row : ℕ → Answer ℕ ℕ) (n d e : ℕ) → length (decimal s) ≤ d → d + 9 ≡ e
+    → ((a : ℕ) → a < n → nextState (row a) < 1000) → length (stateLines s row n) ≤ n * e
 unfolding stateLines
-state-length s row zero hs h = omega arith
-state-length s row (suc n) hs h =
-    omega (arith, length-append (stateLines s row n) (stepLine s n (row n)), state-length s row n hs h, step-length s n (row n) hs (h n))
-
-rows-length : (row : ℕ → ℕ → Answer ℕ ℕ) (letters k : ℕ) → letters ≤ 20 → k ≤ 255 → ((i a : ℕ) → nextState (row i a) < 1000)
-    → length (rowLines row letters k) ≤ 240 * k
-unfolding rowLines
-rows-length row letters zero hl hk h = omega arith
-rows-length row letters (suc k) hl hk h =
+state-length s row zero d e hs w h = omega arith
+state-length s row (suc n) d e hs w h =
+    let p : suc n * e ≡ n * e + e = suc-mul n e in
     omega (
       arith,
-      length-append (rowLines row letters k) (stateLines k (row k) letters),
-      rows-length row letters k hl (omega arith) h,
-      state-length k (row k) letters (omega arith) (h k),
+      p,
+      length-append (stateLines s row n) (stepLine s n (row n)),
+      state-length s row n d e hs w (λ a l. h a (omega arith)),
+      step-length s n (row n) d hs (h n (omega arith)),
     )
 
+-- the lines of k states have n bytes at most: 200 for a state of one digit, 220 for one of two, 240 for one of three
+data Lines (k n : ℕ) : Type 0 where
+  one : k ≤ 10 → n ≤ 200 * k → Lines k n
+  two : 10 ≤ k → k ≤ 100 → n + 200 ≤ 220 * k → Lines k n
+  three : 100 ≤ k → n + 2200 ≤ 240 * k → Lines k n
+
+lines-length : (row : ℕ → ℕ → Answer ℕ ℕ) (letters k : ℕ) → letters ≤ 20 → k ≤ 255
+    → ((i a : ℕ) → i < k → a < letters → nextState (row i a) < 1000) → Lines k (length (rowLines row letters k))
+unfolding rowLines
+lines-length row letters zero hl hk h = one (omega arith) (omega arith)
+lines-length row letters (suc k) hl hk h =
+    by (lines-length row letters k hl (omega arith) (λ i a l m. h i a (omega arith) m))
+  where
+    both : length (rowLines row letters k ++ stateLines k (row k) letters) ≡ length (rowLines row letters k) + length (stateLines k (row k) letters)
+    both = length-append (rowLines row letters k) (stateLines k (row k) letters)
+
+    last : (d e : ℕ) → length (decimal k) ≤ d → d + 9 ≡ e → length (stateLines k (row k) letters) ≤ letters * e
+    last d e n w = state-length k (row k) letters d e n w (λ a l. h k a (omega arith) l)
+
+    by : Lines k (length (rowLines row letters k)) → Lines (suc k) (length (rowLines row letters k ++ stateLines k (row k) letters))
+    by (one l p) =
+        elim (decLt k 10) [
+          | yes m ↦ one (omega arith) (omega (arith, both, p, last 1 10 (length-digits 0 k m) refl))
+          | no m ↦ two (omega arith) (omega arith) (omega (arith, both, p, last 2 11 (length-digits 1 k (omega arith)) refl))
+        ]
+    by (two g l p) =
+        elim (decLt k 100) [
+          | yes m ↦ two (omega arith) (omega arith) (omega (arith, both, p, last 2 11 (length-digits 1 k m) refl))
+          | no m ↦ three (omega arith) (omega (arith, both, p, last 3 12 (length-digits 2 k (omega arith)) refl))
+        ]
+    by (three g p) = three (omega arith) (omega (arith, both, p, last 3 12 (length-digits 2 k (omega arith)) refl))
+
+most : {k n : ℕ} → Lines k n → k ≤ 255 → n ≤ 59000
+most (one l p) h = omega arith
+most (two g l p) h = omega arith
+most (three g p) h = omega arith
+
 -- the listing of a machine within the limits
-pub listing-length : (l : Listing) → Limited l → length (listing l) ≤ 69462
+pub listing-length : (l : Listing) → Limited l → length (listing l) ≤ 67261
 listing-length l m =
     let fences : List ℕ = numberLine (bytes "fences ") (l .fences) in
     let run : List ℕ = outLine (l .output) ++ fences in
@@ -81,9 +119,9 @@ listing-length l m =
       length-append (outLine (l .output)) fences,
       names-length (l .upstream) (l .target) (l .way) (m .short-upstream) (m .short-target),
       number-length (bytes "states ") (l .states) 3 (length-digits 2 (l .states) (omega (arith, m .few-states))),
-      rows-length (l .row) (l .letters) (l .states) (m .few-letters) (m .few-states) (m .next-states),
+      most (lines-length (l .row) (l .letters) (l .states) (m .few-letters) (m .few-states) (m .next-states)) (m .few-states),
       out-length (l .output) (m .short-output),
-      number-length (bytes "fences ") (l .fences) 4 (length-digits 3 (l .fences) (m .few-fences)),
+      number-length (bytes "fences ") (l .fences) 4 (length-digits 3 (l .fences) (omega (arith, m .few-fences))),
       m .few-states,
     )
 

@@ -3,7 +3,7 @@
 use Prim.Native.Nat.{ℕ, _+_, _*_, _%_, _/_, _≤_, _<_}
 use mathlib.Core.Path.{_≡_, sym, ap, ap₂, subst, _∙_}
 use mathlib.Core.Bool.{Bool, true, false, cond}
-use mathlib.Core.List.{List, [], _∷_}
+use mathlib.Core.List.{List}
 use native.Mathlib.Omega.{arith}
 use lib.Dec.{eqb}
 use lib.ListN.{length}
@@ -12,9 +12,6 @@ use Rattle.answers.specs.declared.Refusal.{Refusal}
 use Rattle.answers.specs.declared.Answer.{Answer}
 use Rattle.answers.specs.declared.Verdict.{Verdict}
 use Rattle.answers.specs.Given.{gives, refuses, Delivers, Answers}
-use Rattle.operations.specs.declared.Operation.{Operation}
-use Rattle.operations.specs.declared.Byte.{Byte}
-use Rattle.operations.specs.Operation.{byteIs, isFence, fenceBytes}
 use Rattle.operations.specs.Alphabet.{lettersWith, stride}
 use Rattle.rule.specs.declared.way.Way.{Way}
 use Rattle.printing.proofs.Names.{unfilled-short}
@@ -25,6 +22,7 @@ use Rattle.shims.specs.Models.{modelOf}
 use Rattle.shims.specs.Opening.{openedBy}
 use Rattle.shims.proofs.Theorems.{opens}
 use Rattle.shims.proofs.Fences.{few-read, few-fences}
+use Rattle.runs.specs.Bytes.{fenceBytes}
 use Rattle.mealy.specs.Runs.{refused, taken}
 use Rattle.machine.specs.declared.machine.Machine.{Machine}
 use Rattle.machine.specs.declared.machine.Outcome.{Outcome}
@@ -37,17 +35,6 @@ use Rattle.listing.specs.Printed.{nextState, listing}
 use Rattle.listing.specs.Listed.{ruleOf, listingOf, listedText, MachineListed, crowded, overfull, made}
 use Rattle.listing.specs.inner.Limits.{Listable, Sixteen, RunOutput, Limited}
 use Rattle.listing.specs.inner.Making.{madeListing, madeGiven, MadeListable}
-
--- an output has at most as many fences as bytes
-one-fence : (b : Byte) → isFence b ≤ 1
-one-fence Byte.Nothing = omega arith
-one-fence (Byte.Is (Operation.Access k)) = omega arith
-one-fence (Byte.Is (Operation.Fence f)) = omega arith
-
-fences-few : (l : List ℕ) → fenceBytes l ≤ length l
-unfolding fenceBytes
-fences-few [] = omega arith
-fences-few (b ∷ l) = omega (arith, one-fence (byteIs b), fences-few l)
 
 module _ (m : Models) (sixteen : Sixteen m) (output : List ℕ) (fences : ℕ) (ran : RunOutput output fences)
     (rows rows′ : List ℕ) (size : length rows ≡ 5100) where
@@ -64,7 +51,7 @@ module _ (m : Models) (sixteen : Sixteen m) (output : List ℕ) (fences : ℕ) (
           whole = omega (arith, b .room, b .size);
         };
         short-output = ran .fits;
-        few-fences = omega (arith, ran .fits, ran .count, fences-few output);
+        few-fences = omega (arith, ran .count, ran .few);
       }
   listable (Outcome.Refused why) b = tt
 
@@ -123,7 +110,7 @@ listable-limited m x rows output fences u t l = record {
   short-target = omega (arith, unfilled-short (m .target .name .bytes), t);
   few-states = l .few-states;
   few-letters = l .rows-there .few-letters;
-  next-states = λ i a. next-small (at rows (i * stride + a));
+  next-states = λ i a h k. next-small (at rows (i * stride + a));
   short-output = l .short-output;
   few-fences = l .few-fences;
 }

@@ -1,4 +1,5 @@
 pub mod Listed
+pub mod Accepted
 pub mod Printed
 pub mod Shape
 pub mod inner

@@ -1,5 +1,5 @@
 -- The theorems about the machine of any two models and any way, as a reader wants to find them: stated on the rule's own runs, `run` and `onward`,
--- for any rows that describe it, whether they were generated, listed or read from an image. They hold since such rows run like the rule's own machine.
+-- for any rows that describe it, whether they were generated, listed or read from an image. Such rows run like the rule's own machine.
 -- A stream of letters is a stream of operations by the alphabet: 0 l, 1 L, 2 s, 3 S, 4 upwards the upstream fences. Assumes nothing.
 use Prim.Native.Nat.{ℕ, _≤_, _<_}
 use mathlib.Core.Path.{_≡_, refl, sym, _∙_, ap, subst}

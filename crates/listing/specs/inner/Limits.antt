@@ -18,8 +18,8 @@ pub record RowsThere (states letters : ℕ) (rows : List ℕ) : Type 0 where
 pub record Listable (machine : Machine) (rows output : List ℕ) (fences : ℕ) : Type 0 where
   pub few-states : machine .states ≤ 255
   pub rows-there : RowsThere (machine .states) (lettersWith (machine .ups)) rows
-  pub short-output : length output ≤ 8192
-  pub few-fences : fences < 10000
+  pub short-output : length output ≤ 8191
+  pub few-fences : fences ≤ 4095
 
 -- models of at most sixteen fences, as all are that were read
 pub record Sixteen (m : Models) : Type 0 where
@@ -28,7 +28,8 @@ pub record Sixteen (m : Models) : Type 0 where
 
 -- a run's output, and the count of its fences
 pub record RunOutput (output : List ℕ) (fences : ℕ) : Type 0 where
-  pub fits : length output ≤ 8192
+  pub fits : length output ≤ 8191
+  pub few : fenceBytes output ≤ 4095
   pub count : fences ≡ fenceBytes output
 
 -- a listing of a machine within the limits
@@ -37,6 +38,6 @@ pub record Limited (l : Listing) : Type 0 where
   pub short-target : length (l .target) ≤ 16
   pub few-states : l .states ≤ 255
   pub few-letters : l .letters ≤ stride
-  pub next-states : (i a : ℕ) → nextState (l .row i a) < 1000
-  pub short-output : length (l .output) ≤ 8192
-  pub few-fences : l .fences < 10000
+  pub next-states : (i a : ℕ) → i < l .states → a < l .letters → nextState (l .row i a) < 1000
+  pub short-output : length (l .output) ≤ 8191
+  pub few-fences : l .fences ≤ 4095
