@@ -1,65 +1,68 @@
--- Each call's contract allows one returned number, one set of five numbers and one final buffer, since the call below has one answer and one
--- final buffer. Assumes nothing.
+-- For each export: two returned numbers, two sets of five numbers and two final buffers that its contract allows are equal, since the call below
+-- has one answer and one final buffer; of `shim_compare` the relation too, of `shim_image_read` the header. Assumes nothing.
 use Prim.Native.Nat.{ℕ}
-use mathlib.Core.Path.{_≡_, refl, sym, ap, _∙_}
+use mathlib.Core.Path.{_≡_, sym, ap, _∙_}
 use mathlib.Core.List.{List}
-use Rattle.answers.specs.declared.Answer.{Answer}
 use Rattle.answers.specs.Answer.{numbersOf}
-use Rattle.answers.specs.Given.{Given, Delivers, Answers}
-use Rattle.answers.proofs.Given.{delivers-one}
-use Rattle.comparison.specs.declared.Compared.{Compared}
+use Rattle.answers.specs.Given.{Delivers, Answers}
+use Rattle.writing.specs.Calls.{backGiven}
+use Rattle.built_ins.specs.BuiltIns.{builtInGiven}
+use Rattle.comparison.specs.Comparison.{comparing}
+use Rattle.runs.specs.Call.{outcome}
 use Rattle.image.specs.Calls.{Rewrites}
-use Rattle.image.proofs.Unique.{rewrites-one}
-use Rattle.listing.specs.Listed.{Listed}
-use Rattle.listing.proofs.Unique as listed
+use Rattle.image.proofs.Unique.{rewrite-one}
+use Rattle.image_runs.specs.Run.{runOver}
 use Rattle.generation.specs.Generating.{ImageGiven}
 use Rattle.generation.proofs.Unique as generated
+use Rattle.listing.specs.Listed.{Listed}
+use Rattle.listing.proofs.Unique as listed
 use Rattle.host.specs.Border.{numberIn, Tells, TellsRelation}
+use Rattle.host.proofs.Telling.{same-told, same-delivered}
 
--- a promise that one answer and one final buffer keep
-abbrev pub One : (Answer → List ℕ → Type 0) → Type 0
-One Promise = (a b : Answer) (after after′ : List ℕ) → Promise a after → Promise b after′ → (a ≡ b) × (after ≡ after′)
+pub builtin-one : (number : ℕ) {out : List ℕ} {r r′ : ℕ} {answer answer′ after after′ : List ℕ}
+    → Tells (Delivers (builtInGiven number) out) r answer after → Tells (Delivers (builtInGiven number) out) r′ answer′ after′
+    → (r ≡ r′) × (answer ≡ answer′) × (after ≡ after′)
+builtin-one number = same-delivered (builtInGiven number)
 
-pub tells-one : {Promise : Answer → List ℕ → Type 0} {n n′ : ℕ} {numbers numbers′ after after′ : List ℕ} → One Promise
-    → Tells Promise n numbers after → Tells Promise n′ numbers′ after′
-    → (n ≡ n′) × (numbers ≡ numbers′) × (after ≡ after′)
-tells-one one a b =
-    let e = one (a .what) (b .what) _ _ (a .promised) (b .promised) in (
-      a .returned ∙ ap numberIn (e .0) ∙ sym (b .returned),
-      a .told ∙ ap numbersOf (e .0) ∙ sym (b .told),
-      e .1,
-    )
+pub model-one : (text : List ℕ) {out : List ℕ} {r r′ : ℕ} {answer answer′ after after′ : List ℕ}
+    → Tells (Delivers (backGiven text) out) r answer after → Tells (Delivers (backGiven text) out) r′ answer′ after′
+    → (r ≡ r′) × (answer ≡ answer′) × (after ≡ after′)
+model-one text = same-delivered (backGiven text)
 
--- so a call tells one thing that delivers what its inputs determine: `shim_builtin`, `shim_model`, `shim_run`, `shim_image_run`
-pub delivered-one : (g : Given) {out : List ℕ} {n n′ : ℕ} {numbers numbers′ after after′ : List ℕ} → Tells (Delivers g out) n numbers after
-    → Tells (Delivers g out) n′ numbers′ after′ → (n ≡ n′) × (numbers ≡ numbers′) × (after ≡ after′)
-delivered-one g a b = tells-one (λ x y s t p q. delivers-one refl p q) a b
+pub run-one : (way : ℕ) (upstream target stream : List ℕ) {out : List ℕ} {r r′ : ℕ} {answer answer′ after after′ : List ℕ}
+    → Tells (Delivers (outcome way upstream target stream) out) r answer after
+    → Tells (Delivers (outcome way upstream target stream) out) r′ answer′ after′
+    → (r ≡ r′) × (answer ≡ answer′) × (after ≡ after′)
+run-one way upstream target stream = same-delivered (outcome way upstream target stream)
 
--- and `shim_image_read`, with its header
-pub image-read-one : (image : List ℕ) {out header header′ : List ℕ} {n n′ : ℕ} {numbers numbers′ after after′ : List ℕ}
-    → Tells (Rewrites image out header) n numbers after → Tells (Rewrites image out header′) n′ numbers′ after′
-    → (n ≡ n′) × (numbers ≡ numbers′) × (header ≡ header′) × (after ≡ after′)
+pub image-run-one : (image : List ℕ) (start : ℕ) (stream : List ℕ) {out : List ℕ} {r r′ : ℕ} {answer answer′ after after′ : List ℕ}
+    → Tells (Delivers (runOver image start stream) out) r answer after → Tells (Delivers (runOver image start stream) out) r′ answer′ after′
+    → (r ≡ r′) × (answer ≡ answer′) × (after ≡ after′)
+image-run-one image start stream = same-delivered (runOver image start stream)
+
+pub generate-one : (way : ℕ) (upstream target : List ℕ) {out : List ℕ} {r r′ : ℕ} {answer answer′ after after′ : List ℕ}
+    → Tells (Answers (ImageGiven way upstream target) out) r answer after
+    → Tells (Answers (ImageGiven way upstream target) out) r′ answer′ after′
+    → (r ≡ r′) × (answer ≡ answer′) × (after ≡ after′)
+generate-one way upstream target a b = same-told (λ x y s t p q. generated.generate-one way upstream target _ p q) a b
+
+pub list-one : (input : List ℕ) {out : List ℕ} {r r′ : ℕ} {answer answer′ after after′ : List ℕ}
+    → Tells (Answers (Listed input) out) r answer after → Tells (Answers (Listed input) out) r′ answer′ after′
+    → (r ≡ r′) × (answer ≡ answer′) × (after ≡ after′)
+list-one input a b = same-told (λ x y s t p q. listed.list-one _ _ p q) a b
+
+pub image-read-one : (image : List ℕ) {out header header′ : List ℕ} {r r′ : ℕ} {answer answer′ after after′ : List ℕ}
+    → Tells (Rewrites image out header) r answer after → Tells (Rewrites image out header′) r′ answer′ after′
+    → (r ≡ r′) × (answer ≡ answer′) × (header ≡ header′) × (after ≡ after′)
 image-read-one image a b =
-    let e = rewrites-one image (a .promised) (b .promised) in (
+    let e = rewrite-one image (a .promised) (b .promised) in (
       a .returned ∙ ap numberIn (e .0) ∙ sym (b .returned),
       a .told ∙ ap numbersOf (e .0) ∙ sym (b .told),
       e .1,
       e .2,
     )
 
--- and `shim_list`
-pub list-one : {input out : List ℕ} {n n′ : ℕ} {numbers numbers′ after after′ : List ℕ} → Tells (Answers (Listed input) out) n numbers after
-    → Tells (Answers (Listed input) out) n′ numbers′ after′ → (n ≡ n′) × (numbers ≡ numbers′) × (after ≡ after′)
-list-one a b = tells-one (λ x y s t p q. listed.list-one _ _ p q) a b
-
--- and `shim_generate`
-pub generate-one : (number : ℕ) (upstream target : List ℕ) {out : List ℕ} {n n′ : ℕ} {numbers numbers′ after after′ : List ℕ}
-    → Tells (Answers (ImageGiven number upstream target) out) n numbers after
-    → Tells (Answers (ImageGiven number upstream target) out) n′ numbers′ after′
-    → (n ≡ n′) × (numbers ≡ numbers′) × (after ≡ after′)
-generate-one number upstream target a b = tells-one (λ x y s t p q. generated.generate-one number upstream target _ p q) a b
-
--- and `shim_compare`
-pub compare-one : (compared : Compared) {n n′ relation relation′ : ℕ} {numbers numbers′ : List ℕ} → TellsRelation compared n relation numbers
-    → TellsRelation compared n′ relation′ numbers′ → (n ≡ n′) × (relation ≡ relation′) × (numbers ≡ numbers′)
-compare-one compared a b = (a .returned ∙ sym (b .returned), a .set ∙ sym (b .set), a .told ∙ sym (b .told))
+pub compare-one : (first second : List ℕ) {r r′ relation relation′ : ℕ} {answer answer′ : List ℕ}
+    → TellsRelation (comparing first second) r relation answer → TellsRelation (comparing first second) r′ relation′ answer′
+    → (r ≡ r′) × (relation ≡ relation′) × (answer ≡ answer′)
+compare-one first second a b = (a .returned ∙ sym (b .returned), a .set ∙ sym (b .set), a .told ∙ sym (b .told))

@@ -10,16 +10,16 @@ use Rattle.image.specs.declared.machine.Reading.{Reading}
 use Rattle.image.specs.Image.{imageOf, ReadsTo}
 use Rattle.image.specs.Calls.{headerAs, Rewrites}
 
-pub reads-one : {image rows after after′ : List ℕ} {r r′ : Reading} → ReadsTo image rows r after → ReadsTo image rows r′ after′
+pub read-one : (image rows : List ℕ) {after after′ : List ℕ} {r r′ : Reading} → ReadsTo image rows r after → ReadsTo image rows r′ after′
     → (r ≡ r′) × (after ≡ after′)
-reads-one a b = (a .reading ∙ sym (b .reading), a .filled ∙ sym (b .filled))
+read-one image rows a b = (a .reading ∙ sym (b .reading), a .filled ∙ sym (b .filled))
 
-pub writes-one : (h : Header) (rows : List ℕ) {out after after′ : List ℕ} {r r′ : Answer} → Delivers (gives (imageOf h rows) 0 0) out r after
+pub write-one : (h : Header) (rows : List ℕ) {out after after′ : List ℕ} {r r′ : Answer} → Delivers (gives (imageOf h rows) 0 0) out r after
     → Delivers (gives (imageOf h rows) 0 0) out r′ after′ → (r ≡ r′) × (after ≡ after′)
-writes-one h rows = delivers-one refl
+write-one h rows = delivers-one refl
 
-pub rewrites-one : (image : List ℕ) {out header header′ after after′ : List ℕ} {r r′ : Answer} → Rewrites image out header r after
+pub rewrite-one : (image : List ℕ) {out header header′ after after′ : List ℕ} {r r′ : Answer} → Rewrites image out header r after
     → Rewrites image out header′ r′ after′ → (r ≡ r′) × (header ≡ header′) × (after ≡ after′)
-rewrites-one image a b =
+rewrite-one image a b =
     let e = delivers-one refl (a .delivered) (b .delivered) in
     (e .0, a .header-told ∙ ap (headerAs image) (e .0) ∙ sym (b .header-told), e .1)

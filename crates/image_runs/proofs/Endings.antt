@@ -37,15 +37,17 @@ module _ (r : Walked) (e : Ending) (room : List ℕ) (ends : Ends r e room) wher
       delivers-as (ap outcomeOf (sym s)) w
 
 -- the stages of a run over an image that is accepted
-module _ (image : List ℕ) (start : ℕ) (stream : List ℕ) (n : ℕ) (states : n ≡ statesOf image) where
-  pub out-of-range : n ≤ start → refuses Refusal.OutOfRange ≡ runAs image start stream Verdict.Accepted
-  out-of-range l = rw (le-ltb start (statesOf image) (omega arith))
+module _ (image : List ℕ) (start : ℕ) (stream out : List ℕ) {n : ℕ} (states : n ≡ statesOf image) where
+  pub start-refused : n ≤ start → Delivers (runAs image start stream Verdict.Accepted) out (Answer.Refused Refusal.OutOfRange) out
+  start-refused l = rw (le-ltb start (statesOf image) (omega arith)) (delivers-refusal out)
 
-  pub over-limit : start < n → streamLimit < length stream → refuses Refusal.OverLimit ≡ runAs image start stream Verdict.Accepted
-  over-limit l k = rw (lt-ltb start (statesOf image) (omega arith), lt-leb (length stream) streamLimit k)
+  pub length-refused : start < n → streamLimit < length stream
+      → Delivers (runAs image start stream Verdict.Accepted) out (Answer.Refused Refusal.OverLimit) out
+  length-refused l k = rw (lt-ltb start (statesOf image) (omega arith), lt-leb (length stream) streamLimit k) (delivers-refusal out)
 
-  pub in-range : start < n → length stream ≤ streamLimit → outcomeOf (walked image start stream) ≡ runAs image start stream Verdict.Accepted
-  in-range l k = rw (lt-ltb start (statesOf image) (omega arith), le-leb (length stream) streamLimit k)
+  pub walk-given : {after : List ℕ} {r : Answer} → start < n → length stream ≤ streamLimit
+      → Delivers (outcomeOf (walked image start stream)) out r after → Delivers (runAs image start stream Verdict.Accepted) out r after
+  walk-given l k d = rw (lt-ltb start (statesOf image) (omega arith), le-leb (length stream) streamLimit k) d
 
 -- by the verdict
 pub by-verdict : (image : List ℕ) (start : ℕ) (stream : List ℕ) (v w : Verdict) → v ≡ verdictOf image → v ≡ w

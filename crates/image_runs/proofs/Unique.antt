@@ -7,6 +7,6 @@ use Rattle.answers.specs.Given.{Delivers}
 use Rattle.answers.proofs.Given.{delivers-one}
 use Rattle.image_runs.specs.Run.{runOver}
 
-pub runs-one : (image : List ℕ) (start : ℕ) (stream : List ℕ) {out after after′ : List ℕ} {r r′ : Answer}
+pub run-one : (image : List ℕ) (start : ℕ) (stream : List ℕ) {out after after′ : List ℕ} {r r′ : Answer}
     → Delivers (runOver image start stream) out r after → Delivers (runOver image start stream) out r′ after′ → (r ≡ r′) × (after ≡ after′)
-runs-one image start stream = delivers-one refl
+run-one image start stream = delivers-one refl

@@ -7,3 +7,4 @@ pub mod Verdicts
 pub mod Zeros
 pub mod Inverse
 pub mod Faultless
+pub mod Unique

@@ -16,9 +16,9 @@ module _ (image : List ℕ) where
   unfolding verdictOf
   over-limit h = rw (lt-ltb _ _ h)
 
-  pub by-blocks : length image ≤ limit → (n : ℕ) → n ≡ blockCount image → (f g : Found) → f ≡ lowest (wrong image) 0 n → f ≡ g
-      → (v : Verdict) → v ≡ stages g (lowestBarred image) → v ≡ verdictOf image
+  pub by-blocks : {n : ℕ} {f g : Found} {v : Verdict} → length image ≤ limit → n ≡ blockCount image → f ≡ lowest (wrong image) 0 n → f ≡ g
+      → v ≡ stages g (lowestBarred image) → v ≡ verdictOf image
   unfolding verdictOf
-  by-blocks fits n count f g block is v h =
+  by-blocks fits count block is h =
       rw (le-ltb _ _ fits)
       (h ∙ ap (λ (x : Found). stages x (lowestBarred image)) (sym is ∙ block ∙ ap (lowest (wrong image) 0) count))

@@ -117,10 +117,10 @@ fn is_barred_fence(image: &[u8], state: usize, value: usize) -> bool
     if ground::number_at(image, 4) <= state {
         return 1 <= value;
     }
-    if ground::number_at(image, 6) <= value {
-        return value < 254;
+    if value < ground::number_at(image, 6) {
+        return false;
     }
-    false
+    value < 254
 }
 
 fn is_barred_next(image: &[u8], i: usize, value: usize, state: usize) -> bool

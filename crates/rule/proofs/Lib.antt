@@ -9,3 +9,4 @@ pub mod Situations
 pub mod Stands
 pub mod Streams
 pub mod Theorems
+pub mod Unique

@@ -110,7 +110,7 @@ pub fn read_texts<'a>(way: Way, upstream: &'a [u8], target: &'a [u8]) -> Opening
     let verdict = read.verdict;
     let model = read.model;
     match verdict {
-        Verdict::Refused(why) => refuse(why),
+        Verdict::Refused(first) => refuse(first),
         Verdict::Accepted => read_target(way, model, target),
     }
 }

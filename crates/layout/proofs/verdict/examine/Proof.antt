@@ -1,13 +1,12 @@
 -- `examine` meets its contract: an image within the limit has the verdict of its lowest wrong block and, where there is none, of its bytes.
 -- Assumes nothing.
-use mathlib.Core.Path.{refl}
 use borrow.Author.Needs.{needs}
 use Rattle.layout.proofs.Verdicts.{over-limit, by-blocks}
 use Rattle.layout.proofs.verdict.examine.Statement.{statement}
 use Rattle.layout.proofs.verdict.examine.Tie as tie
 
 returns : tie.Need-returns
-returns c = over-limit _ (c .if1 .taken)
+returns c = search (over-limit, needs)
 
 block-count-requires : tie.Need-block-count-requires
 block-count-requires c κs = search needs
@@ -25,16 +24,10 @@ examine-bytes-requires : tie.Need-examine-bytes-requires
 examine-bytes-requires c κs = search needs
 
 returns-2 : tie.Need-returns-2
-returns-2 c =
-    let looked = c .before .before .before in
-    by-blocks _ (looked .before .before .if1 .left) _ (looked .before .block-count .ensures .0) _ _ (looked .lowest-wrong .ensures)
-    (c .before .block .given .1) _ refl
+returns-2 c = search (by-blocks, needs)
 
 returns-3 : tie.Need-returns-3
-returns-3 c =
-    let looked = c .before .before .before in
-    by-blocks _ (looked .before .before .if1 .left) _ (looked .before .block-count .ensures .0) _ _ (looked .lowest-wrong .ensures)
-    (c .before .enum-told .given .1) _ (c .examine-bytes .ensures)
+returns-3 c = search (by-blocks, needs)
 
 pub examine-spec : {M : Type 1} → statement M
 examine-spec =

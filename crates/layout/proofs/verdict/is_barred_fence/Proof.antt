@@ -8,20 +8,16 @@ number-at-requires : tie.Need-number-at-requires
 number-at-requires c κs = search needs
 
 returns : tie.Need-returns
-returns c = fence-unused _ _ _ _ (c .before .number-at .ensures .0) (c .if1 .taken)
+returns c = search (fence-unused, needs)
 
 number-at-requires-2 : tie.Need-number-at-requires-2
 number-at-requires-2 c κs = search needs
 
 returns-2 : tie.Need-returns-2
-returns-2 c =
-    let used = c .before .before in
-    fence-high _ _ _ _ (used .before .number-at .ensures .0) _ (c .before .number-at2 .ensures .0) (used .if1 .left) (c .if2 .taken)
+returns-2 c = search (fence-number, needs)
 
 returns-3 : tie.Need-returns-3
-returns-3 c =
-    let used = c .before .before in
-    fence-number _ _ _ _ (used .before .number-at .ensures .0) _ (c .before .number-at2 .ensures .0) (used .if1 .left) (c .if2 .left)
+returns-3 c = search (fence-high, needs)
 
 pub is-barred-fence-spec : {M : Type 1} → statement M
 is-barred-fence-spec =
