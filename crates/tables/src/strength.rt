@@ -31,10 +31,10 @@ impl Strength {
     pub fn lower(self, other: Strength) -> Strength
         ensures { λ r. ⌜ r .level ≡ min (self .level) (other .level) ⌝ }
     {
-        if self.level < other.level {
-            self
-        } else {
+        if other.level < self.level {
             other
+        } else {
+            self
         }
     }
 
