@@ -1,5 +1,5 @@
--- The contract of `built_in` allows one reading, being an equation, and that of `write_built_in` one answer and one final buffer: what is delivered is
--- determined. Assumes nothing.
+-- The contract of `built_in` allows one reading, being an equation, and that of `write_built_in` one answer and one final buffer: what is
+-- delivered is determined. Assumes nothing.
 use Prim.Native.Nat.{ℕ}
 use mathlib.Core.Path.{_≡_, refl, sym, _∙_}
 use mathlib.Core.List.{List}

@@ -37,7 +37,8 @@ same-length c = search needs
 returns : tie.Need-returns
 returns c =
     let n = c .before .before .before .before in
-    delivers-as (ap (λ (l : List ℕ). gives (withBlanks l) 0 0) (all-five (n .before .before .args .answer) (n .numbers .result) (n .numbers .ensures)))
+    let five = all-five (n .before .before .args .answer) (n .numbers .result) (n .numbers .ensures) in
+    delivers-as (ap (λ (l : List ℕ). gives (withBlanks l) 0 0) five)
     (c .before .before .five-text .ensures)
 
 pub answer-text-spec : {M : Type 1} → statement M
