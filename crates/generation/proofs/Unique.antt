@@ -28,4 +28,4 @@ one-given number upstream target = given-one (opened number upstream target) Mac
 pub one-answer : (number : ℕ) (upstream target : List ℕ) {out after after′ : List ℕ} {r r′ : Answer}
     → Answers (ImageGiven number upstream target) out r after
     → Answers (ImageGiven number upstream target) out r′ after′ → (r ≡ r′) × (after ≡ after′)
-one-answer number upstream target = given.one-answer (one-given number upstream target)
+one-answer number upstream target = given.answers-one (one-given number upstream target)

@@ -100,7 +100,7 @@ one-listing (within l a) (within k b) = shape-one a b
 -- so `list` has one answer and one final buffer
 pub one-answer : {input out after after′ : List ℕ} {r r′ : Answer} → Answers (Listed input) out r after → Answers (Listed input) out r′ after′
     → (r ≡ r′) × (after ≡ after′)
-one-answer {input} = given.one-answer (λ g h a b. one-listing {input = input} a b)
+one-answer {input} = given.answers-one (λ g h a b. one-listing {input = input} a b)
 
 -- and `refusal_line`
 pub line-one : (why : Refusal) {out after after′ : List ℕ} {r r′ : Answer} → Delivers (gives (refusalLine why) 0 0) out r after
