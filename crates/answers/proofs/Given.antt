@@ -30,6 +30,6 @@ pub answers-by : {P Q : Given → Type 0} {out after : List ℕ} {r : Answer} �
 answers-by f a = record { given = a .given; right = f (a .given) (a .right); delivered = a .delivered }
 
 -- where one thing alone is right, a call has one answer and one final buffer
-pub one-answer : {Right : Given → Type 0} → ((g h : Given) → Right g → Right h → g ≡ h) → {out after after′ : List ℕ} {r r′ : Answer}
+pub answers-one : {Right : Given → Type 0} → ((g h : Given) → Right g → Right h → g ≡ h) → {out after after′ : List ℕ} {r r′ : Answer}
     → Answers Right out r after → Answers Right out r′ after′ → (r ≡ r′) × (after ≡ after′)
-one-answer one a b = delivers-one (one (a .given) (b .given) (a .right) (b .right)) (a .delivered) (b .delivered)
+answers-one one a b = delivers-one (one (a .given) (b .given) (a .right) (b .right)) (a .delivered) (b .delivered)

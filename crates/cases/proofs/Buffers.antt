@@ -10,7 +10,7 @@ use native.Mathlib.Numerals.{add-one}
 use borrow.Author.Count.{below-more}
 use borrow.Author.Tests.{eq-eqb, ne-eqb}
 use lib.ListN.{length, getD, set, take, drop, drop-of-length-le}
-use lib.Seq.{drop-cons, take-all, getD-set-same, getD-set-other}
+use lib.Seq.{drop-cons, take-all, ext-getD, getD-set-same, getD-set-other}
 use Rattle.cases.specs.Buffer.{untouched, Repeats}
 
 -- taking more than there is
@@ -48,6 +48,12 @@ repeats-on piece bytes i l so =
 
 pub repeats-to-the-end : (piece bytes : List ℕ) (i : ℕ) → length bytes ≤ i → Repeats piece bytes i → Repeats piece bytes (length bytes)
 repeats-to-the-end piece bytes i h so = record { each = λ j l some. so .each j (omega (arith, l, h)) some }
+
+-- two buffers of a length that repeat the same piece are equal
+pub repeats-one : (piece one other : List ℕ) → length one ≡ length other → 0 < length piece → Repeats piece one (length one)
+    → Repeats piece other (length other) → one ≡ other
+repeats-one piece one other same some so too =
+    ext-getD 0 one other same (λ i l. so .each i l some ∙ sym (too .each i (subst (λ (n : ℕ). i < n) same l) some))
 
 -- a place of the piece
 pub in-piece : (i : ℕ) (piece : List ℕ) → length piece ≢ 0 → i % length piece < length piece

@@ -1,3 +1,4 @@
 pub mod Buffers
 pub mod Bars
 pub mod Unique
+pub mod Printed

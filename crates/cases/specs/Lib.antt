@@ -1,2 +1,3 @@
 pub mod Buffer
 pub mod Fields
+pub mod Printed

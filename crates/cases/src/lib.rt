@@ -1,10 +1,17 @@
-// What the programs that run the calls on cases share: reading the cases, and printing what a call answered and left in its buffer.
+// What the programs that run the calls on cases share: reading the cases, and the texts of what a call answered and left in its buffer. The
+// programs print them: no contract can say what is written to standard output, so nothing here writes to it.
 ghost use Prim.Native.Nat.{min};
 ghost use mathlib.Core.Path.{_≡_};
 ghost use lib.ListN.{length, getD, take, drop};
+ghost use mathlib.Core.List.{[], _∷_, _++_};
+ghost use Rattle.ground.specs.Bytes.{bytes};
 ghost use Rattle.answers.specs.Answer.{numbersOf};
+ghost use Rattle.answers.specs.Given.{gives, Delivers};
+ghost use Rattle.printing.specs.Decimal.{decimal};
+ghost use Rattle.printing.specs.Putting.{Put};
 ghost use Rattle.io.specs.Counts.{Counts};
 ghost use Rattle.cases.specs.Buffer.{untouched, Repeats};
+ghost use Rattle.cases.specs.Printed.{withBlanks};
 
 pub mod fields;
 
@@ -61,30 +68,39 @@ pub fn kept(buffer: &[u8], from: usize) -> bool
     true
 }
 
-pub fn print_kept(buffer: &[u8], from: usize) {
-    if kept(buffer, from) {
-        io::write_all(1, b" kept");
-    } else {
-        io::write_all(1, b" changed");
-    }
+// A number behind a blank.
+fn put_next(line: &mut [u8], at: usize, number: u64) -> usize
+    ensures { λ r. ⌜ Put (now (line .entry)) (now (line .exit)) at r (bytes " " ++ decimal number) ⌝ }
+{
+    let number_at = printing::put(line, at, b" ");
+    printing::put_decimal(line, number_at, number)
 }
 
-// With blanks between.
-pub fn print_numbers(numbers: &[u64]) {
-    let mut i = 0;
-    while i < numbers.len() {
-        if 0 < i {
-            io::write_all(1, b" ");
-        }
-        io::print_decimal(1, numbers[i]);
-        i += 1;
-    }
+fn put_five(line: &mut [u8], a: u64, b: u64, c: u64, d: u64, e: u64) -> usize
+    ensures { λ r. ⌜ Put (now (line .entry)) (now (line .exit)) 0 r (withBlanks (a ∷ b ∷ c ∷ d ∷ e ∷ [])) ⌝ }
+{
+    let second = printing::put_decimal(line, 0, a);
+    let third = put_next(line, second, b);
+    let fourth = put_next(line, third, c);
+    let fifth = put_next(line, fourth, d);
+    put_next(line, fifth, e)
 }
 
-// Number, place, written, fences, state.
-pub fn print_answer(answer: Answer) {
-    let numbers = answer.numbers();
-    print_numbers(&numbers);
+// Five numbers have at most twenty digits each, and four blanks stand between.
+fn five_text(a: u64, b: u64, c: u64, d: u64, e: u64, out: &mut [u8]) -> Answer
+    ensures { λ r. ⌜ Delivers (gives (withBlanks (a ∷ b ∷ c ∷ d ∷ e ∷ [])) 0 0) (now (out .entry)) r (now (out .exit)) ⌝ }
+{
+    let mut line = [0u8; 104];
+    let n = put_five(&mut line, a, b, c, d, e);
+    answers::write_out(&line[..n], 0, 0, out)
+}
+
+// The five numbers of an answer, with blanks between: number, place, written, fences, state.
+pub fn answer_text(answer: Answer, out: &mut [u8]) -> Answer
+    ensures { λ r. ⌜ Delivers (gives (withBlanks (numbersOf answer)) 0 0) (now (out .entry)) r (now (out .exit)) ⌝ }
+{
+    let all = answer.numbers();
+    five_text(all[0], all[1], all[2], all[3], all[4], out)
 }
 
 // What a call has put out: the first bytes of its buffer, as many as it says that it has written.

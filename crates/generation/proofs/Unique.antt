@@ -4,7 +4,7 @@ use mathlib.Core.Path.{_≡_, sym, ap₂, _∙_}
 use mathlib.Core.List.{List}
 use Rattle.answers.specs.declared.Answer.{Answer}
 use Rattle.answers.specs.Given.{Given, Answers}
-use Rattle.answers.proofs.Given.{delivers-one}
+use Rattle.answers.proofs.Given.{answers-one}
 use Rattle.shims.specs.declared.Models.{Models}
 use Rattle.shims.specs.Opening.{opened}
 use Rattle.shims.proofs.Calls.{given-one}
@@ -27,5 +27,4 @@ one-given number upstream target = given-one (opened number upstream target) Mac
 pub generate-one : (way : ℕ) (upstream target out : List ℕ) {r r′ : Answer} {after after′ : List ℕ}
     → Answers (ImageGiven way upstream target) out r after → Answers (ImageGiven way upstream target) out r′ after′
     → (r ≡ r′) × (after ≡ after′)
-generate-one way upstream target out p q =
-    delivers-one (one-given way upstream target (p .given) (q .given) (p .right) (q .right)) (p .delivered) (q .delivered)
+generate-one way upstream target out = answers-one (one-given way upstream target)

@@ -1,3 +1,4 @@
 pub mod Truths
 pub mod Sameness
 pub mod Lowest
+pub mod Unique

@@ -1,6 +1,7 @@
 // How the answers on images are printed.
 ghost use mathlib.Core.Path.{_≡_};
 ghost use lib.ListN.{length};
+use answers::Answer;
 use answers::Verdict;
 
 // Room for the longest output and a byte more, of a byte that tells what is kept. The large array stands in a function of its own, so that few
@@ -11,9 +12,29 @@ pub(crate) fn marks() -> [u8; 8193]
     [b'#'; 8193]
 }
 
+pub(crate) fn print_answer(answer: Answer) {
+    let mut line = [0u8; 104];
+    let told = cases::answer_text(answer, &mut line);
+    io::write_all(1, cases::output_of(told, &line));
+}
+
+pub(crate) fn print_kept(buffer: &[u8], from: usize) {
+    if cases::kept(buffer, from) {
+        io::write_all(1, b" kept");
+    } else {
+        io::write_all(1, b" changed");
+    }
+}
+
 // Way, states, upstream fences, target fences.
 pub(crate) fn print_header(header: [u64; 4]) {
-    cases::print_numbers(&header);
+    io::print_decimal(1, header[0]);
+    io::write_all(1, b" ");
+    io::print_decimal(1, header[1]);
+    io::write_all(1, b" ");
+    io::print_decimal(1, header[2]);
+    io::write_all(1, b" ");
+    io::print_decimal(1, header[3]);
 }
 
 pub(crate) fn print_same<'a>(image: &'a [u8], back: &'a [u8]) {

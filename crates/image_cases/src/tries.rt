@@ -12,19 +12,19 @@ fn rewrite(image: &[u8], room: usize) {
     let mut header = [1u64; 4];
     let n = cases::at_most(room, &buffer);
     let answer = image::calls::rewrite(image, &mut header, &mut buffer[..n]);
-    cases::print_answer(answer);
+    show::print_answer(answer);
     io::write_all(1, b", ");
     show::print_header(header);
     let back = cases::output_of(answer, &buffer);
     show::print_same(image, back);
-    cases::print_kept(&buffer, back.len());
+    show::print_kept(&buffer, back.len());
 }
 
 // An image that was made: the answer, whether the rest of the buffer is as it was, its checks, its CRC, and what writing it back gives.
 pub(crate) fn image(answer: Answer, buffer: &[u8]) {
     let image = cases::output_of(answer, buffer);
-    cases::print_answer(answer);
-    cases::print_kept(buffer, image.len());
+    show::print_answer(answer);
+    show::print_kept(buffer, image.len());
     show::print_checks(image);
     show::print_crc(image);
     io::write_all(1, b"; ");
@@ -43,10 +43,10 @@ fn run<'a>(image: &'a [u8], start: u64, stream: &'a [u8], room: usize) {
     let mut buffer = show::marks();
     let n = cases::at_most(room, &buffer);
     let answer = image_runs::run(image, start, stream, &mut buffer[..n]);
-    cases::print_answer(answer);
+    show::print_answer(answer);
     let output = cases::output_of(answer, &buffer);
     show::print_output(output);
-    cases::print_kept(&buffer, output.len());
+    show::print_kept(&buffer, output.len());
     io::write_all(1, b"\n");
 }
 

@@ -17,7 +17,8 @@ use Rattle.answers.proofs.Laws.{buffer-fits, answer-fits}
 use Rattle.rule.specs.Pairs.{Model}
 use Rattle.shims.specs.declared.Models.{Models}
 use Rattle.shims.specs.Models.{modelOf}
-use Rattle.runs.specs.Bytes.{direct, fenceBytes, puts}
+use Rattle.operations.specs.Operation.{fenceBytes}
+use Rattle.runs.specs.Bytes.{direct, puts}
 use Rattle.runs.specs.Call.{runGiven}
 use Rattle.listing.specs.inner.Limits.{RunOutput}
 use Rattle.listing.proofs.Output.{is-done, longest-output, most-fences}

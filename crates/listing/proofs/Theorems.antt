@@ -21,7 +21,8 @@ use Rattle.shims.specs.Opening.{openedBy, Opens}
 use Rattle.shims.proofs.Calls.{given-opened}
 use Rattle.shims.proofs.Theorems.{opens}
 use Rattle.shims.proofs.Fences.{few-read, few-fences}
-use Rattle.runs.specs.Bytes.{fenceBytes, puts}
+use Rattle.operations.specs.Operation.{fenceBytes}
+use Rattle.runs.specs.Bytes.{puts}
 use Rattle.runs.specs.Call.{runGiven}
 use Rattle.mealy.specs.Runs.{Answer, refused, taken, Same}
 use Rattle.mealy.specs.Arrivals.{Entry, Described}

@@ -5,14 +5,14 @@ use mathlib.Core.List.{List}
 use Rattle.answers.specs.declared.Refusal.{Refusal}
 use Rattle.answers.specs.declared.Answer.{Answer}
 use Rattle.answers.specs.Given.{gives, Answers, Delivers}
-use Rattle.answers.proofs.Given.{delivers-one}
+use Rattle.answers.proofs.Given.{delivers-one, answers-one}
 use Rattle.listing.specs.Printed.{refusalLine}
 use Rattle.listing.specs.Listed.{Listed}
 use Rattle.listing.proofs.Determined.{one-listing}
 
 pub list-one : (input out : List ℕ) {r r′ : Answer} {after after′ : List ℕ} → Answers (Listed input) out r after
     → Answers (Listed input) out r′ after′ → (r ≡ r′) × (after ≡ after′)
-list-one input out p q = delivers-one (one-listing (p .right) (q .right)) (p .delivered) (q .delivered)
+list-one input out = answers-one (λ g h a b. one-listing {input = input} a b)
 
 pub refusal-line-one : (why : Refusal) (out : List ℕ) {r r′ : Answer} {after after′ : List ℕ} → Delivers (gives (refusalLine why) 0 0) out r after
     → Delivers (gives (refusalLine why) 0 0) out r′ after′ → (r ≡ r′) × (after ≡ after′)

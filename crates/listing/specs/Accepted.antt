@@ -7,7 +7,8 @@ use lib.ListN.{length}
 use Rattle.shims.specs.declared.WayRead.{WayRead}
 use Rattle.shims.specs.declared.Models.{Models}
 use Rattle.shims.specs.Opening.{Opens}
-use Rattle.runs.specs.Bytes.{fenceBytes, puts}
+use Rattle.operations.specs.Operation.{fenceBytes}
+use Rattle.runs.specs.Bytes.{puts}
 use Rattle.runs.specs.Call.{runGiven}
 use Rattle.mealy.specs.Runs.{Answer, Same}
 use Rattle.mealy.specs.Arrivals.{Described}

@@ -4,7 +4,9 @@ use answers::Answer;
 use comparison::Compared;
 
 fn print_line(answer: Answer) {
-    cases::print_answer(answer);
+    let mut line = [0u8; 104];
+    let told = cases::answer_text(answer, &mut line);
+    io::write_all(1, cases::output_of(told, &line));
     io::write_all(1, b"\n");
 }
 

@@ -10,11 +10,12 @@ use lib.ListN.{length, getD}
 use Rattle.tables.specs.declared.table.Table.{Table}
 use Rattle.tables.specs.declared.table.Row.{Row}
 use Rattle.tables.specs.declared.table.Column.{Column}
+use Rattle.tables.specs.Strength.{levelOf, letter}
 use Rattle.tables.specs.Table.{rowNumber, columnNumber, cell, Clean}
 use Rattle.tables.proofs.Laws.{row-below, column-below, cell-below, cell-made, table-cong, table-own}
-use Rattle.models.specs.Text.{letter, tablePart}
+use Rattle.models.specs.Text.{tablePart}
 use Rattle.texts.specs.Pattern.{cellByte, fits, Follows}
-use Rattle.models.specs.inner.Lines.{tablePattern, levelOf}
+use Rattle.models.specs.inner.Lines.{tablePattern}
 use Rattle.models.specs.Reading.{tableIn}
 use Rattle.texts.proofs.Pattern.{length-follows, follow-at}
 

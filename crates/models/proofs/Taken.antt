@@ -9,10 +9,10 @@ use native.Mathlib.Decide.{ℕ-discrete}
 use lib.ListN.{length, take, drop, getD, set, replicate, drop-of-length-le}
 use lib.Seq.{length-take-le, take-suc, drop-cons, set-at, append-snoc, getD-set-same, getD-set-other}
 use Rattle.ground.specs.Bytes.{sameBytes}
+use Rattle.tables.specs.Strength.{levelOf}
 use Rattle.tables.specs.Table.{place, rowNumber, columnNumber, levelsTable}
 use Rattle.tables.proofs.Laws.{table-cong, row-below, column-below}
 use Rattle.models.specs.declared.model.Name.{Name}
-use Rattle.models.specs.inner.Lines.{levelOf}
 use Rattle.models.specs.Told.{filled}
 use Rattle.models.specs.Reading.{tableIn}
 use Rattle.models.specs.inner.Progress.{among}

@@ -10,6 +10,7 @@ use Rattle.answers.specs.declared.Refusal.{Refusal}
 use Rattle.tables.specs.declared.table.Table.{Table}
 use Rattle.tables.specs.declared.table.Row.{Row}
 use Rattle.tables.specs.declared.table.Column.{Column}
+use Rattle.tables.specs.Strength.{levelOf}
 use Rattle.tables.specs.Table.{rowNumber, columnNumber, table}
 use Rattle.texts.specs.Language.{onStep}
 use Rattle.texts.specs.Pattern.{followAt}
@@ -20,7 +21,7 @@ use Rattle.models.specs.declared.model.Name.{Name}
 use Rattle.models.specs.declared.model.Reading.{Reading}
 use Rattle.models.specs.declared.reader.Progress.{Progress}
 use Rattle.models.specs.Told.{filled, refusing}
-use Rattle.models.specs.inner.Lines.{levelOf, thenLine, headFrom, fenceLineFrom}
+use Rattle.models.specs.inner.Lines.{thenLine, headFrom, fenceLineFrom}
 use Rattle.models.specs.inner.Progress.{formless, onLine, started, withFence, finished}
 
 -- the two lines above the fences, which count as one, and a fence's line

@@ -1,21 +1,15 @@
--- Document 01: "A cell is one of `-` (unordered), `N` (non-atomic), `M` (multiple-copy atomic), `S` (single-copy atomic, or plainly
--- ordered)". A table is "written as four rows for the earlier access in the order cld, cst, ld, st, each with columns for the later
--- access in the order ld, cld, st, cst". The model's text is shown there by an example; "Single spaces, a line feed after each line and
--- nothing else." "Each model has exactly one text."
+-- Document 01: a table is "written as four rows for the earlier access in the order cld, cst, ld, st, each with columns for the later
+-- access in the order ld, cld, st, cst", each cell by its letter. The model's text is shown there by an example; "Single spaces, a line
+-- feed after each line and nothing else." "Each model has exactly one text."
 use Prim.Native.Nat.{ℕ}
-use mathlib.Core.Bool.{cond}
 use mathlib.Core.List.{List, [], _∷_, _++_}
-use lib.Dec.{eqb}
 use Rattle.ground.specs.Bytes.{bytes}
 use Rattle.tables.specs.declared.table.Table.{Table}
 use Rattle.tables.specs.declared.table.Row.{Row}
 use Rattle.tables.specs.declared.table.Column.{Column}
+use Rattle.tables.specs.Strength.{letter}
 use Rattle.tables.specs.Table.{cell}
 use Rattle.models.specs.Model.{Fence, Description}
-
--- the letter of a level: `-`, `N`, `M`, `S`
-abbrev pub letter : ℕ → ℕ
-letter level = cond (eqb level 0) 45 (cond (eqb level 1) 78 (cond (eqb level 2) 77 83))
 
 abbrev pub rowText : Table → Row → List ℕ
 rowText t r =

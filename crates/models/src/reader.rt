@@ -5,7 +5,6 @@ ghost use lib.ListN.{length, take, drop};
 ghost use Rattle.ground.specs.Bytes.{sameBytes};
 ghost use Rattle.texts.specs.NamePart.{nameRun};
 ghost use Rattle.models.specs.Told.{Told};
-ghost use Rattle.models.specs.inner.Lines.{levelOf};
 ghost use Rattle.models.specs.inner.Progress.{among, repeatPlace, finished};
 ghost use Rattle.models.specs.Reading.{nameIn, tableIn, ended, linesFrom, reading};
 use crate::held;
@@ -17,6 +16,7 @@ use crate::scan::Line;
 use crate::scan::LineRead;
 use answers::Refusal;
 use answers::Verdict;
+use tables::strength::Strength;
 use tables::table::Table;
 use texts::Step;
 
@@ -24,21 +24,6 @@ use texts::Step;
 struct Progress {
     model: Model,
     repeat: usize,
-}
-
-fn level_of(b: u8) -> u8
-    ensures { λ r. ⌜ r ≡ levelOf b ⌝ }
-{
-    if b == b'N' {
-        return 1;
-    }
-    if b == b'M' {
-        return 2;
-    }
-    if b == b'S' {
-        return 3;
-    }
-    0
 }
 
 // What is left of the text from a place on.
@@ -58,7 +43,8 @@ fn table_in(text: &[u8]) -> Table
     let mut levels = [0u8; 16];
     let mut i = 0;
     while i < 16 {
-        levels[i] = level_of(ground::byte_at(text, i + i / 4));
+        let s = Strength::of_letter(ground::byte_at(text, i + i / 4));
+        levels[i] = s.level;
         i += 1;
     }
     Table::of_levels(levels)

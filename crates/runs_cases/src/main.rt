@@ -6,18 +6,31 @@ use answers::Answer;
 use cases::fields::field;
 use cases::fields::number;
 
+fn print_answer(answer: Answer) {
+    let mut line = [0u8; 104];
+    let told = cases::answer_text(answer, &mut line);
+    io::write_all(1, cases::output_of(told, &line));
+}
+
+fn print_kept(buffer: &[u8], from: usize) {
+    if cases::kept(buffer, from) {
+        io::write_all(1, b" kept\n");
+    } else {
+        io::write_all(1, b" changed\n");
+    }
+}
+
 fn print_run<'a>(name: &'a [u8], way: u64, answer: Answer, buffer: &'a [u8]) {
     io::write_all(1, name);
     io::write_all(1, b", way ");
     io::print_decimal(1, way);
     io::write_all(1, b": ");
-    cases::print_answer(answer);
+    print_answer(answer);
     let output = cases::output_of(answer, buffer);
     io::write_all(1, b" [");
     io::write_all(1, output);
     io::write_all(1, b"]");
-    cases::print_kept(buffer, output.len());
-    io::write_all(1, b"\n");
+    print_kept(buffer, output.len());
 }
 
 // The fields: the case, its way, the room of the buffer, the stream's length and the bytes that it repeats, the upstream text, the target text.

@@ -110,6 +110,10 @@ table-own t h =
     (λ i l. ap (digit (t .packed)) (place-own i l))
     ∙ packed-own (t .packed) cells h)
 
+-- so two tables without stray bits whose cells agree are equal
+pub same-cells : (a b : Table) → Clean a → Clean b → ((r : Row) (c : Column) → cell a r c ≡ cell b r c) → a ≡ b
+same-cells a b ca cb h = sym (table-own a ca) ∙ table-cong (cell a) (cell b) h ∙ table-own b cb
+
 merged-below : (how : Merge) (a b : ℕ) → a < 4 → b < 4 → merged how a b < 4
 merged-below Merge.Higher a b la lb = omega arith
 merged-below Merge.Lower a b la lb = omega arith

@@ -1,3 +1,4 @@
 pub mod Cells
+pub mod Strength
 pub mod Table
 pub mod inner

@@ -1,7 +1,5 @@
--- Document 01: "A cell is one of `-` (unordered), `N` (non-atomic), `M` (multiple-copy atomic), `S` (single-copy atomic, or plainly
--- ordered), in that rising order." "A table has sixteen cells, written as four rows for the earlier access in the order cld, cst,
--- ld, st, each with columns for the later access in the order ld, cld, st, cst."
--- A cell is its level: 0 for `-`, 1 for `N`, 2 for `M`, 3 for `S`.
+-- Document 01: "A table has sixteen cells, written as four rows for the earlier access in the order cld, cst, ld, st, each with
+-- columns for the later access in the order ld, cld, st, cst." A cell is its level (specs/Strength).
 use Prim.Native.Nat.{ℕ, _+_, _*_, _/_, _%_, _^_, _<_, max, min}
 use mathlib.Core.Bool.{Bool, cond}
 use mathlib.Core.List.{List}

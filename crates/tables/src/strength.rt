@@ -1,8 +1,9 @@
-// The four strengths of an order between two accesses: constants of their type, with the comparisons beside them, as document 01 asks. Tables are
-// compared whole, so only readers and callers outside use these.
+// The four strengths of an order between two accesses: constants of their type, with the comparisons beside them, as document 01 asks. Whoever
+// reads or writes a cell's letter goes through them. Tables are compared whole, in the module `table`.
 ghost use mathlib.Core.Path.{_≡_};
 ghost use Prim.Native.Nat.{max, min};
 ghost use lib.Dec.{leb};
+ghost use Rattle.tables.specs.Strength.{levelOf, letter};
 
 pub struct Strength {
     pub level: u8,
@@ -30,10 +31,10 @@ impl Strength {
     pub fn lower(self, other: Strength) -> Strength
         ensures { λ r. ⌜ r .level ≡ min (self .level) (other .level) ⌝ }
     {
-        if self.level < other.level {
-            self
-        } else {
+        if other.level < self.level {
             other
+        } else {
+            self
         }
     }
 
@@ -41,5 +42,36 @@ impl Strength {
         ensures { λ r. ⌜ r ≡ leb (other .level) (self .level) ⌝ }
     {
         other.level <= self.level
+    }
+
+    // The strength that a cell's letter stands for; any other byte counts as `-`.
+    pub fn of_letter(b: u8) -> Strength
+        ensures { λ r. ⌜ r .level ≡ levelOf b ⌝ }
+    {
+        if b == b'N' {
+            return Strength::NON_ATOMIC;
+        }
+        if b == b'M' {
+            return Strength::MULTIPLE;
+        }
+        if b == b'S' {
+            return Strength::SINGLE;
+        }
+        Strength::UNORDERED
+    }
+
+    pub fn letter(self) -> u8
+        ensures { λ r. ⌜ r ≡ letter (self .level) ⌝ }
+    {
+        if self.at_least(Strength::SINGLE) {
+            return b'S';
+        }
+        if self.at_least(Strength::MULTIPLE) {
+            return b'M';
+        }
+        if self.at_least(Strength::NON_ATOMIC) {
+            return b'N';
+        }
+        b'-'
     }
 }

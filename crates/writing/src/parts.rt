@@ -1,9 +1,10 @@
 // The parts of a model's text, put into a buffer one behind another.
 ghost use mathlib.Core.Path.{_≡_};
 ghost use mathlib.Core.List.{[], _∷_, _++_};
+ghost use Rattle.tables.specs.Strength.{letter};
 ghost use Rattle.tables.specs.Table.{cell};
 ghost use Rattle.printing.specs.Putting.{Put};
-ghost use Rattle.models.specs.Text.{letter, rowText, tablePart, fencesText, textOf};
+ghost use Rattle.models.specs.Text.{rowText, tablePart, fencesText, textOf};
 ghost use Rattle.writing.specs.Writing.{fencesOf, described};
 ghost use Rattle.writing.specs.inner.Parts.{linePart};
 use models::model::Model;
@@ -12,26 +13,11 @@ use tables::table::Column;
 use tables::table::Row;
 use tables::table::Table;
 
-fn letter_of(level: u8) -> u8
-    ensures { λ r. ⌜ r ≡ letter level ⌝ }
-{
-    if level == 0 {
-        return b'-';
-    }
-    if level == 1 {
-        return b'N';
-    }
-    if level == 2 {
-        return b'M';
-    }
-    b'S'
-}
-
 fn cell_letter(table: Table, row: Row, column: Column) -> u8
     ensures { λ r. ⌜ r ≡ letter (cell table row column) ⌝ }
 {
     let s = table.cell(row, column);
-    letter_of(s.level)
+    s.letter()
 }
 
 // A row and the byte after it.

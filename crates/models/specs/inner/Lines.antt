@@ -1,9 +1,7 @@
 -- The lines of a model's text, followed from the left.
 use Prim.Native.Nat.{ℕ, _+_, _-_, _≤_}
 use mathlib.Core.Path.{_≡_}
-use mathlib.Core.Bool.{cond}
 use mathlib.Core.List.{List}
-use lib.Dec.{eqb}
 use lib.ListN.{length, drop}
 use Rattle.ground.specs.Bytes.{bytes}
 use Rattle.texts.specs.declared.Step.{Step}
@@ -16,10 +14,6 @@ use Rattle.models.specs.declared.scan.LineRead.{LineRead}
 -- the table's part of a line
 abbrev pub tablePattern : List ℕ
 tablePattern = bytes "???? ???? ???? ????\n"
-
--- the level that a cell's letter stands for
-abbrev pub levelOf : ℕ → ℕ
-levelOf b = cond (eqb b 78) 1 (cond (eqb b 77) 2 (cond (eqb b 83) 3 0))
 
 -- a line goes on at the next place, or the text departs from it there
 abbrev pub thenLine : Step → (ℕ → LineRead) → LineRead

@@ -5,7 +5,7 @@ use native.Mathlib.Omega.{arith}
 use borrow.Author.Needs.{needs}
 use denote.Ref.{now}
 use lib.ListN.{length-set, length, getD}
-use Rattle.models.specs.inner.Lines.{levelOf}
+use Rattle.tables.specs.Strength.{levelOf}
 use Rattle.models.proofs.Taken.{stored-more, levels-read}
 use Rattle.models.proofs.reader.table_in.Statement.{statement}
 use Rattle.models.proofs.reader.table_in.Tie as tie
@@ -25,8 +25,8 @@ add-byte-at c = search needs
 byte-at-requires : tie.Need-byte-at-requires Inv-loop μ-loop
 byte-at-requires c κs = search needs
 
-level-of-requires : tie.Need-level-of-requires Inv-loop μ-loop
-level-of-requires c κs = search needs
+of-letter-requires : tie.Need-of-letter-requires Inv-loop μ-loop
+of-letter-requires c κs = search needs
 
 array-write-levels : tie.Need-array-write-levels Inv-loop μ-loop
 array-write-levels c = search needs
@@ -41,7 +41,7 @@ loop-again : tie.Need-loop-again Inv-loop μ-loop
 loop-again c =
     let l = c .before .before .before .loop in
     let t = now (c .before .before .before .before .before .args .text) in
-    let level = c .level-of .ensures ∙ ap levelOf (c .before .byte-at .ensures) in
+    let level = c .of-letter .ensures ∙ ap levelOf (c .before .byte-at .ensures) in
     let more = stored-more (l .levels) (l .i) _ (λ (j : ℕ). levelOf (getD t (j + j / 4) 0)) (omega arith) level (l .inv .2) in
     (search needs, simp length-set (l .inv .1), more)
 
@@ -63,7 +63,7 @@ table-in-spec =
     loop-holds
     add-byte-at
     byte-at-requires
-    level-of-requires
+    of-letter-requires
     array-write-levels
     add-i
     loop-less

@@ -1,7 +1,7 @@
--- `letter_of` meets its contract: each `return` by the tests that led there. Assumes nothing.
+-- `Strength::of_letter` meets its contract: the constant that each `return` gives has the level of the letter that led there. Assumes nothing.
 use borrow.Author.Tests.{eq-eqb, ne-eqb}
-use Rattle.writing.proofs.parts.letter_of.Statement.{statement}
-use Rattle.writing.proofs.parts.letter_of.Tie as tie
+use Rattle.tables.proofs.strength.Strength.of_letter.Statement.{statement}
+use Rattle.tables.proofs.strength.Strength.of_letter.Tie as tie
 
 returns : tie.Need-returns
 returns c = simp (eq-eqb _ _ (c .if1 .taken))
@@ -15,5 +15,5 @@ returns-3 c = simp (ne-eqb _ _ (c .before .before .if1 .left), ne-eqb _ _ (c .be
 returns-4 : tie.Need-returns-4
 returns-4 c = simp (ne-eqb _ _ (c .before .before .if1 .left), ne-eqb _ _ (c .before .if2 .left), ne-eqb _ _ (c .if3 .left))
 
-pub letter-of-spec : {M : Type 1} → statement M
-letter-of-spec = tie.close (tie.spec returns returns-2 returns-3 returns-4)
+pub of-letter-spec : {M : Type 1} → statement M
+of-letter-spec = tie.close (tie.spec returns returns-2 returns-3 returns-4)
