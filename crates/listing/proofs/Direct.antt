@@ -21,7 +21,7 @@ use Rattle.operations.specs.Operation.{fenceBytes}
 use Rattle.runs.specs.Bytes.{direct, puts}
 use Rattle.runs.specs.Call.{runGiven}
 use Rattle.listing.specs.inner.Limits.{RunOutput}
-use Rattle.listing.proofs.Output.{is-done, longest-output, most-fences}
+use Rattle.runs.proofs.Longest.{is-done, longest-output, most-fences}
 
 -- so a direct run gives bytes, at most so many, with their fences counted; or a refusal
 abbrev pub Short : Given → Type 0

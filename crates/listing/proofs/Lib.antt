@@ -3,7 +3,6 @@ pub mod Endings
 pub mod Printing
 pub mod Longest
 pub mod Fits
-pub mod Output
 pub mod Direct
 pub mod Made
 pub mod Stages

@@ -22,7 +22,7 @@ use Rattle.shims.specs.Models.{modelOf}
 use Rattle.shims.specs.Opening.{openedBy}
 use Rattle.shims.proofs.Theorems.{opens}
 use Rattle.shims.proofs.Fences.{few-read, few-fences}
-use Rattle.runs.specs.Bytes.{fenceBytes}
+use Rattle.operations.specs.Operation.{fenceBytes}
 use Rattle.mealy.specs.Runs.{refused, taken}
 use Rattle.machine.specs.declared.machine.Machine.{Machine}
 use Rattle.machine.specs.declared.machine.Outcome.{Outcome}

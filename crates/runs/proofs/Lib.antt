@@ -4,5 +4,4 @@ pub mod Counting
 pub mod Judging
 pub mod Longest
 pub mod Running
-pub mod Theorems
 pub mod Unique

@@ -1,4 +1,3 @@
 pub mod Bytes
 pub mod Call
-pub mod DirectRun
 pub mod inner

@@ -5,7 +5,7 @@ use mathlib.Core.Path.{_≡_, sym, ap, _∙_}
 use mathlib.Core.List.{List}
 use Rattle.answers.specs.declared.Answer.{Answer}
 use Rattle.answers.specs.Given.{Given, answerOf}
-use Rattle.listing.proofs.Unique.{one-listing}
+use Rattle.listing.proofs.Determined.{one-listing}
 use Rattle.show.specs.Shown.{Shown}
 
 pub show-one : (input : List ℕ) {r r′ : Answer} → Shown input r → Shown input r′ → r ≡ r′
