@@ -1,7 +1,7 @@
 -- What a direct run has done that was accepted: its call has gone through all its stages, so what it wrote is the rule's run of the whole stream, and
 -- the rest is said by the theorems of `rule`. Assumes nothing.
 use Prim.Native.Nat.{ℕ, _<_, _≤_}
-use mathlib.Core.Path.{_≡_, refl, sym, ap, ap₂, subst, _∙_}
+use mathlib.Core.Path.{_≡_, refl, sym, ap, subst, _∙_}
 use mathlib.Core.Bool.{true}
 use mathlib.Core.Logic.{_⊎_, inl, inr}
 use mathlib.Core.List.{List, [], _∷_, map}
@@ -14,21 +14,18 @@ use Rattle.tables.specs.declared.table.Row.{Row}
 use Rattle.tables.specs.declared.table.Column.{Column}
 use Rattle.tables.specs.Table.{cell}
 use Rattle.operations.specs.declared.Operation.{Operation}
-use Rattle.operations.specs.declared.Byte.{Byte}
-use Rattle.operations.specs.Operation.{byteIs, byteOf, fenceBytes}
+use Rattle.operations.specs.Operation.{byteOf, fenceBytes}
 use Rattle.operations.proofs.Bytes.{access-read, fence-read}
 use Rattle.rule.specs.declared.way.Way.{Way}
 use Rattle.rule.specs.Stream.{Stream, count, kindAt, HasFence, between}
-use Rattle.rule.specs.Stream as streams
 use Rattle.rule.specs.Pairs.{Model, fenceTable, isRow, isColumn, asked, offered}
 use Rattle.rule.specs.Rule.{done, run, everyFence}
 use Rattle.rule.proofs.Theorems.{is-a-placing, every-pair-kept, by-default-or-one-fence, fence-exactly-when, nothing-at-the-end, fewest-fences}
 use Rattle.shims.specs.declared.Models.{Models}
 use Rattle.shims.proofs.Fences.{few-read, few-fences}
-use Rattle.runs.specs.Bytes.{puts}
 use Rattle.runs.specs.Call.{outcome}
 use Rattle.runs.proofs.Counting.{fence-bytes-are-fences}
-use Rattle.demands.specs.Streams.{Reads, Own, KeptByOne, Right}
+use Rattle.demands.specs.Streams.{Reads, KeptByOne, Right}
 use Rattle.demands.specs.Opened.{Opened, up, on}
 use Rattle.demands.specs.DirectRuns.{RunDone}
 use Rattle.demands.proofs.Delivered.{Gave, done-gave}

@@ -1,8 +1,8 @@
 -- Demand 1: "Every public call takes every text, stream, image, number and buffer, of length nought too, stays within bounds and ends." That is what a
 -- proof of a function in Rattle says, and no public function has a `requires`. "Bad input is refused by the number and place that document 01 gives; a
 -- refused call writes nothing": here, of the answers and the buffers. Assumes nothing.
-use Prim.Native.Nat.{ℕ, _<_}
-use mathlib.Core.Path.{_≡_, refl, sym, ap, subst, _∙_}
+use Prim.Native.Nat.{ℕ}
+use mathlib.Core.Path.{_≡_, refl, ap, subst}
 use mathlib.Core.Logic.{_↔_}
 use mathlib.Core.List.{List, [], _∷_, map}
 use native.Mathlib.Omega.{arith}
@@ -11,7 +11,7 @@ use Rattle.ground.proofs.Truths.{differ}
 use Rattle.answers.specs.declared.Refusal.{Refusal}
 use Rattle.answers.specs.declared.Answer.{Answer}
 use Rattle.answers.specs.Answer.{numberOf, placeOf, numbersOf}
-use Rattle.answers.specs.Given.{Given, gives, refuses, Delivers, Answers}
+use Rattle.answers.specs.Given.{Given, refuses, Delivers, Answers}
 use Rattle.operations.specs.Operation.{byteOf}
 use Rattle.shims.specs.declared.Models.{Models}
 use Rattle.runs.specs.Call.{outcome}
@@ -20,7 +20,7 @@ use Rattle.generation.specs.Generating.{ImageGiven}
 use Rattle.demands.specs.Generated as generate
 use Rattle.demands.specs.Generated.{GenerateRefused, situations, states, ImageExceeds}
 use Rattle.demands.proofs.Delivered.{Withheld, refused, exceeds, refused-withheld, withheld-refused}
-use Rattle.demands.proofs.Direct.{DirectIs, puts-out, at-4, at-5, at-6}
+use Rattle.demands.proofs.Direct.{puts-out, at-4, at-5, at-6}
 use Rattle.demands.proofs.Generating as generating
 use Rattle.demands.proofs.Generating.{MachineIs, crowded, overfull, made, GenerateIs, opens, generate-is, unopened-is, same-length}
 use Rattle.demands.proofs.Generating.{given-models, as-8, as-9, machine-is}

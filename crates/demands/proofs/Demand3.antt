@@ -2,7 +2,7 @@
 -- target's fences among the same accesses, of any kinds and any number in a gap, that keeps all those pairs has at least as many fences." Of the number
 -- that the call returns: it counts the fences of the rule's run, which has the fewest. Assumes nothing.
 use Prim.Native.Nat.{ℕ, _≤_}
-use mathlib.Core.Path.{_≡_, sym, ap, subst, _∙_}
+use mathlib.Core.Path.{_≡_, sym, subst}
 use mathlib.Core.List.{List}
 use native.Mathlib.Omega.{arith}
 use Rattle.ground.proofs.Truths.{differ}

@@ -1,29 +1,27 @@
 -- What the direct run of two models gives, in 01's words: bytes where every byte is an operation and the rule accepts them all, and otherwise the
 -- refusal of the first byte at fault. By what the rule's run gives, and the first fault of the bytes. Assumes nothing.
-use Prim.Native.Nat.{ℕ, suc, _+_, _<_, _≤_}
+use Prim.Native.Nat.{ℕ, suc, _+_}
 use mathlib.Core.Path.{_≡_, refl, sym, ap, ap₂, subst, _∙_}
-use mathlib.Core.Bool.{Bool, true, false, cond}
 use mathlib.Core.List.{List, [], _∷_, _++_, map, append-nil}
 use mathlib.Core.Option.{Option, none, some}
 use native.Mathlib.Omega.{arith}
 use lib.ListN.{length}
-use Rattle.ground.proofs.Truths.{differ}
 use Rattle.answers.specs.declared.Refusal.{Refusal}
 use Rattle.answers.specs.Given.{Given, refuses}
 use Rattle.operations.specs.declared.Operation.{Operation}
-use Rattle.operations.specs.declared.Byte.{Byte}
-use Rattle.operations.specs.Operation.{byteIs, byteOf}
+use Rattle.operations.specs.Operation.{byteOf}
 use Rattle.rule.specs.Stream.{Stream}
-use Rattle.rule.specs.Rule as rule
 use Rattle.rule.specs.Rule.{Ran, done, refused, run}
 use Rattle.rule.proofs.Theorems.{refused-exactly-when}
 use Rattle.shims.specs.declared.Models.{Models}
-use Rattle.runs.specs.Bytes.{Judged, good, bad, judged, operationsFrom, operations, faultFrom, fault, puts, outcomeOf, direct}
+use Rattle.runs.specs.Bytes.{Judged, operationsFrom, operations, faultFrom, fault, puts, outcomeOf, direct}
 use Rattle.demands.specs.Streams.{Reads, Own}
 use Rattle.demands.specs.Opened.{up, on}
 use Rattle.demands.specs.DirectRuns.{StopsAt, NoOperation, NoSuchFence, NoFenceWillDo}
 use Rattle.demands.proofs.Reading as reading
-use Rattle.demands.proofs.Reading.{AtFault, is-bad, is-good, read-then, reads-all, reads-length, faults, stands}
+use Rattle.runs.proofs.Judging as judging
+use Rattle.runs.proofs.Judging.{AtFault, is-bad, is-good}
+use Rattle.demands.proofs.Reading.{read-then, reads-all, reads-length, faults, stands}
 
 -- the rule accepts the whole stream
 pub record Accepts (m : Models) (stream : List ℕ) (output : Stream) : Type 0 where
@@ -94,8 +92,8 @@ module _ (m : Models) (stream : List ℕ) where
               }
 
           look : {is : Refusal} → AtFault n (0 + length (f .first)) (f .byte) is → DirectIs m stream (refuses is)
-          look (reading.no-operation e) = at-4 _ (at (NoOperation m) e)
-          look (reading.no-such-fence g e l) = at-5 _ (at (NoSuchFence m) (g, e, l))
+          look (judging.no-operation e) = at-4 _ (at (NoOperation m) e)
+          look (judging.no-such-fence g e l) = at-5 _ (at (NoSuchFence m) (g, e, l))
 
       by : (r : Ran) → ran ops ≡ r → (f : Option Refusal) → fault n 0 stream ≡ f → DirectIs m stream (outcomeOf 0 r f)
       by (refused i) r f g =
@@ -137,9 +135,9 @@ module _ (m : Models) (stream : List ℕ) where
       let none-at : fault n 0 stream ≡ none = ap (fault n 0) (sym (append-nil stream)) ∙ t .1 in
       ap₂ (λ (r : Ran) (f : Option Refusal). outcomeOf 0 r f) (ap ran whole ∙ a .accepted) none-at
   is-direct (at-4 place s) =
-      stops-so s (reading.no-operation (s .fault)) ∙ ap (λ (k : ℕ). refuses (Refusal.NoOperation k)) (s .index)
+      stops-so s (judging.no-operation (s .fault)) ∙ ap (λ (k : ℕ). refuses (Refusal.NoOperation k)) (s .index)
   is-direct (at-5 place s) =
-      stops-so s (reading.no-such-fence (s .fault .0) (s .fault .1) (s .fault .2)) ∙ ap (λ (k : ℕ). refuses (Refusal.NoSuchFence k)) (s .index)
+      stops-so s (judging.no-such-fence (s .fault .0) (s .fault .1) (s .fault .2)) ∙ ap (λ (k : ℕ). refuses (Refusal.NoSuchFence k)) (s .index)
   is-direct (at-6 place s) =
       let k = s .fault .0 in
       let j = is-good n (0 + length (s .first)) (s .byte) (Operation.Access k) (s .fault .1) tt in

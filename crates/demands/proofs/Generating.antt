@@ -1,19 +1,18 @@
 -- What a call gives that generates an image, in 01's words: its opening's refusal, 8 or 9, or the image of the minimal machine. By the stages of the call
 -- and what the machine's contract says. Assumes nothing.
-use Prim.Native.Nat.{ℕ, _+_, _-_, _*_, _/_, _%_, _<_, _≤_}
-use mathlib.Core.Path.{_≡_, refl, sym, ap, ap₂, subst, subst₂, _∙_}
-use mathlib.Core.Bool.{Bool, true, false, cond}
+use Prim.Native.Nat.{ℕ, _+_, _-_, _*_, _/_, _%_, _<_}
+use mathlib.Core.Path.{_≡_, refl, sym, ap, subst, subst₂, _∙_}
+use mathlib.Core.Bool.{false}
 use mathlib.Core.Logic.{_↔_}
 use mathlib.Core.List.{List}
 use native.Mathlib.Decide.{decLt}
 use native.Mathlib.Omega.{arith}
 use borrow.Author.Tests.{lt-ltb, le-ltb, ne-eqb}
 use lib.Dec.{eqb}
-use lib.ListN.{length, take, drop}
+use lib.ListN.{length}
 use Rattle.ground.specs.Bytes.{at}
 use Rattle.ground.proofs.Truths.{differ}
 use Rattle.answers.specs.declared.Refusal.{Refusal}
-use Rattle.answers.specs.declared.Answer as answers
 use Rattle.answers.specs.declared.Verdict.{Verdict}
 use Rattle.answers.specs.Given.{Given, gives, refuses, GivenUnless}
 use Rattle.operations.specs.Alphabet.{accessLetters}
@@ -50,7 +49,7 @@ use Rattle.generation.proofs.Theorems.{imaged, ups-few, making, laid-out, image
 use Rattle.generation.proofs.Theorems.{gives-8-exactly-when, gives-9-exactly-when, never-7}
 use Rattle.demands.specs.Opened.{Opened, up, on, OpeningRefused}
 use Rattle.demands.proofs.Opening.{opens-told, told-opens, opened-one, opening-told, told-opening}
-use Rattle.demands.specs.Images.{accessAnswer, entryAnswer, ImageOf}
+use Rattle.demands.specs.Images.{entryAnswer, ImageOf}
 
 module _ {number : ℕ} {upstream target image : List ℕ} (call : Imaged number upstream target image) where
   abbrev m : Models

@@ -1,32 +1,24 @@
 -- A stream of bytes and its operations: as long as each byte is an operation of the upstream model they go side by side, byte by byte, and where that
 -- ends the fault stands. Assumes nothing.
-use Prim.Native.Nat.{ℕ, suc, _+_, _<_, _≤_}
+use Prim.Native.Nat.{ℕ, suc, _+_, _<_}
 use mathlib.Core.Path.{_≡_, refl, sym, ap, ap₂, subst, _∙_}
-use mathlib.Core.Bool.{Bool, true, false, cond}
-use mathlib.Core.Logic.{_⊎_, inl, inr}
 use mathlib.Core.List.{List, [], _∷_, _++_, map}
-use mathlib.Core.Option.{Option, none, some}
+use mathlib.Core.Option.{none, some}
 use native.Mathlib.Omega.{arith}
-use borrow.Author.Tests.{ltb-true, ltb-false, lt-ltb, le-ltb}
-use lib.Dec.{ltb}
 use lib.ListN.{length}
 use Rattle.ground.proofs.Truths.{differ}
 use Rattle.answers.specs.declared.Refusal.{Refusal}
-use Rattle.operations.specs.declared.Kind.{Kind}
 use Rattle.operations.specs.declared.Operation.{Operation}
 use Rattle.operations.specs.declared.Byte.{Byte}
 use Rattle.operations.specs.Operation.{byteIs, byteOf}
 use Rattle.operations.proofs.Bytes.{written-read}
 use Rattle.rule.specs.Stream.{Stream}
 use Rattle.rule.specs.Rule.{everyFence}
-use Rattle.runs.specs.Bytes.{Judged, good, bad, judgedAs, judged, operationsFrom, operations, faultFrom, fault}
+use Rattle.runs.proofs.Judging.{OfN, good-is, is-good, AtFault, bad-is}
+use Rattle.runs.specs.Bytes.{Judged, good, bad, judged, operationsFrom, operations, faultFrom, fault}
 use Rattle.demands.specs.Streams.{Reads}
 
--- an operation of an upstream model of n fences
-abbrev pub OfN : ℕ → Operation → Type 0
-OfN n (Operation.Access k) = Unit {0}
-OfN n (Operation.Fence f) = f < n
-
+-- all of a stream's fences are below n
 abbrev pub Below : ℕ → Stream → Type 0
 Below n s = everyFence (λ (f : ℕ). f < n) s
 
@@ -37,63 +29,6 @@ below-on n (Operation.Fence f) s h b = (h, b)
 pub below-first : (n : ℕ) (op : Operation) (s : Stream) → Below n (op ∷ s) → OfN n op × Below n s
 below-first n (Operation.Access k) s b = (tt, b)
 below-first n (Operation.Fence f) s b = b
-
--- what a byte is by its judgement, and the other way round
-
-pub good-is : (n at b : ℕ) (op : Operation) → judged n at b ≡ good op → (byteIs b ≡ Byte.Is op) × OfN n op
-good-is n at b op e = look (byteIs b) refl
-  where
-    tested : (t : Bool) (f : ℕ) → ltb f n ≡ t → byteIs b ≡ Byte.Is (Operation.Fence f)
-        → cond t (good (Operation.Fence f)) (bad (Refusal.NoSuchFence at)) ≡ good op → (byteIs b ≡ Byte.Is op) × OfN n op
-    tested true f l h z =
-        let m : Operation.Fence f ≡ op = cc in
-        (h ∙ ap (λ (x : Operation). Byte.Is x) m, subst (OfN n) m (ltb-true f n l))
-    tested false f l h z = differ (cc)
-
-    look : (x : Byte) → byteIs b ≡ x → (byteIs b ≡ Byte.Is op) × OfN n op
-    look Byte.Nothing h =
-        let z : bad (Refusal.NoOperation at) ≡ good op = sym (ap (judgedAs n at) h) ∙ e in
-        differ (cc)
-    look (Byte.Is (Operation.Access k)) h =
-        let z : good (Operation.Access k) ≡ good op = sym (ap (judgedAs n at) h) ∙ e in
-        let m : Operation.Access k ≡ op = cc in
-        (h ∙ ap (λ (x : Operation). Byte.Is x) m, subst (OfN n) m tt)
-    look (Byte.Is (Operation.Fence f)) h = tested (ltb f n) f refl h (sym (ap (judgedAs n at) h) ∙ e)
-
-pub is-good : (n at b : ℕ) (op : Operation) → byteIs b ≡ Byte.Is op → OfN n op → judged n at b ≡ good op
-is-good n at b (Operation.Access k) e h = ap (judgedAs n at) e
-is-good n at b (Operation.Fence f) e h =
-    ap (judgedAs n at) e ∙ ap (λ (t : Bool). cond t (good (Operation.Fence f)) (bad (Refusal.NoSuchFence at))) (lt-ltb f n h)
-
--- a byte at fault: it is no operation, or a fence that the upstream model has not
-pub data AtFault (n at b : ℕ) : Refusal → Type 0 where
-  no-operation : byteIs b ≡ Byte.Nothing → AtFault n at b (Refusal.NoOperation at)
-  no-such-fence : (f : ℕ) → byteIs b ≡ Byte.Is (Operation.Fence f) → n ≤ f → AtFault n at b (Refusal.NoSuchFence at)
-
-pub bad-is : (n at b : ℕ) (why : Refusal) → judged n at b ≡ bad why → AtFault n at b why
-bad-is n at b why e = look (byteIs b) refl
-  where
-    tested : (t : Bool) (f : ℕ) → ltb f n ≡ t → byteIs b ≡ Byte.Is (Operation.Fence f)
-        → cond t (good (Operation.Fence f)) (bad (Refusal.NoSuchFence at)) ≡ bad why → AtFault n at b why
-    tested true f l h z = differ (cc)
-    tested false f l h z =
-        let m : Refusal.NoSuchFence at ≡ why = cc in
-        subst (AtFault n at b) m (no-such-fence f h (ltb-false f n l))
-
-    look : (x : Byte) → byteIs b ≡ x → AtFault n at b why
-    look Byte.Nothing h =
-        let z : bad (Refusal.NoOperation at) ≡ bad why = sym (ap (judgedAs n at) h) ∙ e in
-        let m : Refusal.NoOperation at ≡ why = cc in
-        subst (AtFault n at b) m (no-operation h)
-    look (Byte.Is (Operation.Access k)) h =
-        let z : good (Operation.Access k) ≡ bad why = sym (ap (judgedAs n at) h) ∙ e in
-        differ (cc)
-    look (Byte.Is (Operation.Fence f)) h = tested (ltb f n) f refl h (sym (ap (judgedAs n at) h) ∙ e)
-
-pub is-bad : (n at b : ℕ) {why : Refusal} → AtFault n at b why → judged n at b ≡ bad why
-is-bad n at b (no-operation e) = ap (judgedAs n at) e
-is-bad n at b (no-such-fence f e l) =
-    ap (judgedAs n at) e ∙ ap (λ (t : Bool). cond t (good (Operation.Fence f)) (bad (Refusal.NoSuchFence at))) (le-ltb f n l)
 
 -- what is read of bytes that are one more
 pub reads-first : (b : ℕ) (bytes : List ℕ) (op : Operation) (s : Stream) → Reads (b ∷ bytes) (op ∷ s) → (byteIs b ≡ Byte.Is op) × Reads bytes s

@@ -1,14 +1,12 @@
 -- Runs over the image of a machine that describes the rule: the walk is the machine's run, which is the rule's, so it is the direct run, of any length
 -- and in as many blocks as there are. Assumes nothing.
-use Prim.Native.Nat.{ℕ, suc, _+_, _<_, _≤_}
+use Prim.Native.Nat.{ℕ, _+_, _<_, _≤_}
 use mathlib.Core.Path.{_≡_, refl, sym, ap, ap₂, subst, _∙_}
-use mathlib.Core.Bool.{Bool, true, false, cond}
-use mathlib.Core.List.{List, [], _∷_, _++_, map, append-nil, append-assoc}
+use mathlib.Core.List.{List, [], _∷_, _++_, map, append-assoc}
 use native.Mathlib.Decide.{decLt, decLe}
 use native.Mathlib.Omega.{arith}
 use borrow.Author.Tests.{lt-ltb, le-ltb, le-leb, lt-leb}
-use lib.Dec.{ltb}
-use lib.ListN.{length, take}
+use lib.ListN.{length}
 use Rattle.ground.proofs.Truths.{differ}
 use Rattle.answers.specs.declared.Refusal.{Refusal}
 use Rattle.answers.specs.declared.Answer.{Answer}
@@ -17,7 +15,7 @@ use Rattle.answers.specs.Given.{Given, gives, refuses, answerOf, Delivers}
 use Rattle.operations.specs.declared.Operation.{Operation}
 use Rattle.operations.specs.declared.Byte.{Byte}
 use Rattle.operations.specs.Operation.{byteIs, byteOf, fenceBytes}
-use Rattle.operations.specs.Alphabet.{accessLetters, lettersWith, letterIn}
+use Rattle.operations.specs.Alphabet.{lettersWith, letterIn}
 use Rattle.operations.proofs.Letters.{letter-few, operation-of-letter}
 use Rattle.operations.proofs.Counting.{fences-append}
 use Rattle.rule.specs.Stream.{Stream, access, fences}
@@ -26,9 +24,8 @@ use Rattle.rule.proofs.Theorems.{refused-exactly-when}
 use Rattle.shims.specs.declared.Models.{Models}
 use Rattle.runs.specs.Bytes.{puts, direct}
 use Rattle.runs.proofs.Counting.{fence-bytes-are-fences}
-use Rattle.mealy.specs.Runs.{Machine, ends, reached}
+use Rattle.mealy.specs.Runs.{Machine, ends}
 use Rattle.mealy.specs.Arrivals.{numbered}
-use Rattle.machine.specs.Shim.{lettersOf}
 use Rattle.machine.specs.Spoken.{Letters, operations, spelling, machineOf, spoken}
 use Rattle.machine.proofs.Theorems.{runs-like-the-rule, leads-to-a-state}
 use Rattle.layout.specs.Barred.{statesOf, upstreamFencesOf, verdictOf}
@@ -37,13 +34,13 @@ use Rattle.image_runs.specs.declared.Stop.{Stop}
 use Rattle.image_runs.specs.declared.Step.{Step}
 use Rattle.image_runs.specs.Run.{stepAs, stepAt, Walked, ended, stopped, walkedOn, resumed, walked, then, refusalOf, outcomeOf, runAs, runOver}
 use Rattle.image_runs.proofs.Theorems as walks
-use Rattle.demands.specs.Streams.{Reads, Own, Right}
+use Rattle.demands.specs.Streams.{Reads, Own}
 use Rattle.demands.specs.Opened.{up, on}
 use Rattle.demands.specs.DirectRuns.{StopsAt, NoOperation, NoSuchFence, NoFenceWillDo}
 use Rattle.demands.specs.Images.{entryAnswer, ImageOf, stateAfter, Thread, fresh, block, ThreadDone, AsOneStream, goes-on, stops}
 use Rattle.demands.proofs.Accepted.{reads-written, is-right}
 use Rattle.demands.proofs.Delivered.{done-gave}
-use Rattle.demands.proofs.Direct.{Accepts, DirectIs, puts-out, at-4, at-5, at-6, direct-is, is-direct}
+use Rattle.demands.proofs.Direct.{Accepts, DirectIs, puts-out, at-4, at-5, at-6, direct-is}
 use Rattle.demands.proofs.Reading.{Below, reads-length, written-bytes}
 use Rattle.demands.proofs.Walking.{walkOf, told, walks-as-told}
 

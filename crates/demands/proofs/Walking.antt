@@ -1,20 +1,19 @@
 -- A run over an image and the run of the machine that its bytes tell are the same, operation by operation: an entry's bytes are what both answer by.
 -- This holds of all bytes, whether or not they are an image. Assumes nothing.
-use Prim.Native.Nat.{ℕ, suc, _+_, _-_, _*_, _<_, _≤_}
-use mathlib.Core.Path.{_≡_, refl, sym, ap, ap₂, subst, _∙_}
+use Prim.Native.Nat.{ℕ, suc, _+_, _-_, _*_}
+use mathlib.Core.Path.{_≡_, refl, sym, ap, ap₂, _∙_}
 use mathlib.Core.Bool.{Bool, true, false, cond}
 use mathlib.Core.List.{List, [], _∷_, _++_, map}
 use native.Mathlib.Omega.{arith}
 use borrow.Author.Tests.{lt-ltb, le-ltb, eqb-true}
 use lib.Dec.{ltb, eqb}
-use lib.ListN.{length}
 use Rattle.ground.specs.Bytes.{at}
 use Rattle.ground.proofs.Truths.{differ}
 use Rattle.operations.specs.declared.Kind.{Kind}
 use Rattle.operations.specs.declared.Operation.{Operation}
 use Rattle.operations.specs.declared.Byte.{Byte}
 use Rattle.operations.specs.Operation.{byteIs, fenceByte, byteOf}
-use Rattle.operations.specs.Alphabet.{accessLetters, lettersWith, kindOf, letterOf, letterIn}
+use Rattle.operations.specs.Alphabet.{accessLetters, lettersWith, letterOf, letterIn}
 use Rattle.operations.proofs.Bytes.{written-read}
 use Rattle.operations.proofs.Letters.{kind-of-letter, letter-few}
 use Rattle.rule.specs.Stream.{Stream, access, fence, fences}
@@ -29,10 +28,11 @@ use Rattle.image_runs.specs.declared.Stop.{Stop}
 use Rattle.image_runs.specs.declared.Move.{Move}
 use Rattle.image_runs.specs.declared.Step.{Step}
 use Rattle.image_runs.specs.Run as walks
-use Rattle.image_runs.specs.Run.{accessStep, stepAs, stepAt, Walked, ended, stopped, walkedOn, resumed, walked}
+use Rattle.image_runs.specs.Run.{accessStep, stepAt, Walked, ended, stopped, walkedOn, resumed, walked}
 use Rattle.demands.specs.Streams.{Reads}
 use Rattle.demands.specs.Images.{accessAnswer, entryAnswer}
-use Rattle.demands.proofs.Reading.{OfN, Below, below-first, reads-first}
+use Rattle.runs.proofs.Judging.{OfN}
+use Rattle.demands.proofs.Reading.{Below, below-first, reads-first}
 
 -- the run of a machine, as a walk that ends in this state
 abbrev pub walkOf : Ran → ℕ → Walked

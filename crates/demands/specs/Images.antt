@@ -1,6 +1,6 @@
 -- A machine as the bytes of its image tell it, and a thread that is passed through it block by block. Document 01, "The machine image": "for l, L, s, S
 -- a fence byte (a number, FF none, FE refused) with the next state (0 where refused), then sixteen next states for upstream fences".
-use Prim.Native.Nat.{ℕ, _+_, _-_, _*_, _<_, _≤_}
+use Prim.Native.Nat.{ℕ, _+_, _-_, _*_, _<_}
 use mathlib.Core.Path.{_≡_}
 use mathlib.Core.Bool.{cond}
 use mathlib.Core.List.{List, [], _++_, map}

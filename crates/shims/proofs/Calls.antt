@@ -39,15 +39,6 @@ module _ {o p : Opening} (is : o ≡ p) (More : Models → Given → Type 0) whe
   given-accepted e a = answers-by (λ g h. on-verdict g e h) a
 
 -- a call that gives bytes has opened, and gives them for the models
-pub opened-gives : (o : Opening) (more : Models → Given) {bytes : List ℕ} {fences state : ℕ} → onOpened o more ≡ gives bytes fences state
-    → (o .verdict ≡ Verdict.Accepted) × (more (o .models) ≡ gives bytes fences state)
-opened-gives o more {bytes} {fences} {state} = by (o .verdict) refl
-  where
-    by : (v : Verdict) → o .verdict ≡ v → unlessRefused v (more (o .models)) ≡ gives bytes fences state
-        → (o .verdict ≡ Verdict.Accepted) × (more (o .models) ≡ gives bytes fences state)
-    by Verdict.Accepted e h = (e, h)
-    by (Verdict.Refused why) e h = differ (cc)
-
 pub given-opened : (o : Opening) (More : Models → Given → Type 0) (bytes : List ℕ) (fences state : ℕ)
     → GivenOnOpened o More (gives bytes fences state) → (o .verdict ≡ Verdict.Accepted) × More (o .models) (gives bytes fences state)
 given-opened o More bytes fences state = by (o .verdict) refl
