@@ -86,11 +86,11 @@ module _ (input text : List ℕ) (fences state : ℕ) where
   accepted-input h = by-length h refl
 
 -- the name of a model that was read
-name-told : {t : List ℕ} {r : Reading} → Told t r → r .verdict ≡ Verdict.Accepted → length (r .model .name .bytes) ≤ 16
-name-told (too-long l) e = differ (cc)
-name-told (departs l n k) e = differ (cc)
-name-told (repeated d k l f t s) e = differ (cc)
-name-told (accepted d l f t s) e =
+name-length : {t : List ℕ} {r : Reading} → Told t r → r .verdict ≡ Verdict.Accepted → length (r .model .name .bytes) ≤ 16
+name-length (too-long l) e = differ (cc)
+name-length (departs l n k) e = differ (cc)
+name-length (repeated d k l f t s) e = differ (cc)
+name-length (accepted d l f t s) e =
     omega (
       arith,
       length-append (d .name) (replicate (16 - length (d .name)) 0),
@@ -98,8 +98,8 @@ name-told (accepted d l f t s) e =
       f .name .few,
     )
 
-name-read : (text : List ℕ) {m : Model} → reading text ≡ accepting m → length (m .name .bytes) ≤ 16
-name-read text {m} e = name-told (subst (Told text) e (told text)) refl
+short-name : (text : List ℕ) {m : Model} → reading text ≡ accepting m → length (m .name .bytes) ≤ 16
+short-name text {m} e = name-length (subst (Told text) e (told text)) refl
 
 module _ {input text : List ℕ} {fences state : ℕ} (call : AcceptedInput input text fences state) where
   next-state : (i a : ℕ) → i < call .states → a < ruleOf (call .models) .letters → nextState (call .row i a) < 1000
@@ -123,8 +123,8 @@ module _ {input text : List ℕ} {fences state : ℕ} (call : AcceptedInput inpu
   limited : Limited (listingOf (call .models) (call .states) (ruleOf (call .models) .letters) (call .row) (call .output) (fenceBytes (call .output)))
   limited = record {
     short-upstream =
-        omega (arith, unfilled-short (call .models .upstream .name .bytes), name-read (call .parts .upstream) (call .opens .upstream-read));
-    short-target = omega (arith, unfilled-short (call .models .target .name .bytes), name-read (call .parts .target) (call .opens .target-read));
+        omega (arith, unfilled-short (call .models .upstream .name .bytes), short-name (call .parts .upstream) (call .opens .upstream-read));
+    short-target = omega (arith, unfilled-short (call .models .target .name .bytes), short-name (call .parts .target) (call .opens .target-read));
     few-states = call .few-states;
     few-letters = omega (arith, few-fences (call .models .upstream) (few-read (call .parts .upstream) (call .opens .upstream-read)));
     next-states = next-state;
