@@ -8,4 +8,5 @@ pub mod Made
 pub mod Stages
 pub mod Determined
 pub mod Unique
+pub mod Accepting
 pub mod Theorems

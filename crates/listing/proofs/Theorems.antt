@@ -1,142 +1,32 @@
 -- The theorems about a listing, for any input, as a reader wants to find them: what a call that gives one has done, and how long it is at most.
--- They hold since the stages of the call have all gone on, and each of its parts is within its limit. Assumes nothing.
-use Prim.Native.Nat.{ℕ, _-_, _≤_, _<_}
-use mathlib.Core.Path.{_≡_, refl, ap, subst}
+-- They hold since the stages of the call have all gone on, and each part of a listing is within its limit. Assumes nothing.
+use Prim.Native.Nat.{ℕ, _≤_}
+use mathlib.Core.Path.{refl, ap}
 use mathlib.Core.List.{List}
-use mathlib.Core.Option.{Option, none, some}
 use native.Mathlib.Omega.{arith}
-use lib.ListN.{length, replicate, length-append, length-replicate}
-use Rattle.ground.proofs.Truths.{differ}
-use Rattle.answers.specs.declared.Verdict.{Verdict}
-use Rattle.answers.specs.Given.{Given, gives}
-use Rattle.models.specs.declared.model.Model.{Model}
-use Rattle.models.specs.declared.model.Reading.{Reading}
-use Rattle.models.specs.Reading.{reading}
-use Rattle.models.specs.Told.{accepting, Told, over as too-long, departs, repeated, accepted}
-use Rattle.models.proofs.Words.{told}
-use Rattle.printing.proofs.Names.{unfilled-short}
-use Rattle.shims.specs.declared.WayRead.{WayRead}
-use Rattle.shims.specs.declared.Models.{Models}
-use Rattle.shims.specs.Opening.{openedBy, Opens}
-use Rattle.shims.proofs.Calls.{given-opened}
-use Rattle.shims.proofs.Theorems.{opens}
-use Rattle.shims.proofs.Fences.{few-read, few-fences}
-use Rattle.operations.specs.Operation.{fenceBytes}
-use Rattle.runs.specs.Bytes.{puts}
-use Rattle.runs.specs.Call.{runGiven}
-use Rattle.mealy.specs.Runs.{Answer, refused, taken, Same}
-use Rattle.mealy.specs.Arrivals.{Entry, Described}
-use Rattle.listing.specs.Shape.{Parts, shape}
-use Rattle.listing.specs.Printed.{nextState}
-use Rattle.listing.specs.Listed.{ruleOf, listingOf, MachineListed, crowded, overfull, made, ModelsListed, halts, runs}
-use Rattle.listing.specs.Listed.{PartsListed, ShapeListed, shapeless, shaped, Listed, over, within}
+use lib.ListN.{length}
+use Rattle.answers.specs.Given.{gives}
+use Rattle.listing.specs.Listed.{Listed}
 use Rattle.listing.specs.Accepted.{AcceptedInput}
-use Rattle.listing.specs.inner.Limits.{Limited}
-use Rattle.listing.proofs.Direct.{Short, run-short}
+use Rattle.listing.proofs.Accepting.{by-length, within-limits, limited}
 use Rattle.listing.proofs.Longest.{listing-length}
 
-module _ (input text : List ℕ) (fences state : ℕ) where
-  abbrev Accepts : Type 0
-  Accepts = AcceptedInput input text fences state
+-- A call that gives a listing has found its parts, read its two models, run its stream and made its machine; the text tells these.
+pub accepted-input : (input text : List ℕ) (fences state : ℕ) → Listed input (gives text fences state) → AcceptedInput input text fences state
+accepted-input input text fences state h = by-length input text fences state h refl
 
-  by-machine : length input ≤ 32768 → (p : Parts) → shape input ≡ some p → (m : Models)
-      → Opens (WayRead.Is (p .way)) (p .upstream) (p .target) m → {output : List ℕ} → runGiven m (p .stream) ≡ puts output
-      → {g : Given} → MachineListed m output g → g ≡ gives text fences state → Accepts
-  by-machine l p s m o r (crowded h) e = differ (cc)
-  by-machine l p s m o r (overfull f h) e = differ (cc)
-  by-machine l p s m o {output} r (made {k = k} {row = row} f n d) e =
-      record {
-        within = l;
-        parts = p;
-        shaped = s;
-        models = m;
-        opens = o;
-        output = output;
-        ran = r;
-        states = k;
-        row = row;
-        few-states = n;
-        described = d;
-        text-is = cc;
-        fences-are = cc;
-        no-state = cc;
-      }
-
-  by-models : length input ≤ 32768 → (p : Parts) → shape input ≡ some p → (m : Models)
-      → Opens (WayRead.Is (p .way)) (p .upstream) (p .target) m → {g : Given} → ModelsListed m (p .stream) g
-      → g ≡ gives text fences state → Accepts
-  by-models l p s m o (halts r) e = differ (cc)
-  by-models l p s m o (runs r h) e = by-machine l p s m o r h e
-
-  by-parts : length input ≤ 32768 → (p : Parts) → shape input ≡ some p → PartsListed p (gives text fences state) → Accepts
-  by-parts l p s h =
-      let read = openedBy (WayRead.Is (p .way)) (p .upstream) (p .target) in
-      let o = given-opened read (λ (m : Models). ModelsListed m (p .stream)) text fences state h in
-      by-models l p s (read .models) (opens (WayRead.Is (p .way)) (p .upstream) (p .target) (o .0)) (o .1) refl
-
-  by-shape : length input ≤ 32768 → {q : Option Parts} → shape input ≡ q → {g : Given} → ShapeListed q g → g ≡ gives text fences state → Accepts
-  by-shape l s shapeless e = differ (cc)
-  by-shape l s (shaped {p = p} h) e = by-parts l p s (subst (PartsListed p) e h)
-
-  by-length : {g : Given} → Listed input g → g ≡ gives text fences state → Accepts
-  by-length (over l) e = differ (cc)
-  by-length (within l h) e = by-shape l refl h e
-
-  -- A call that gives a listing has found its parts, read its two models, run its stream and made its machine; the text tells these.
-  pub accepted-input : Listed input (gives text fences state) → AcceptedInput input text fences state
-  accepted-input h = by-length h refl
-
--- the name of a model that was read
-name-told : {t : List ℕ} {r : Reading} → Told t r → r .verdict ≡ Verdict.Accepted → length (r .model .name .bytes) ≤ 16
-name-told (too-long l) e = differ (cc)
-name-told (departs l n k) e = differ (cc)
-name-told (repeated d k l f t s) e = differ (cc)
-name-told (accepted d l f t s) e =
-    omega (
-      arith,
-      length-append (d .name) (replicate (16 - length (d .name)) 0),
-      length-replicate {A = ℕ} (16 - length (d .name)) 0,
-      f .name .few,
-    )
-
-name-read : (text : List ℕ) {m : Model} → reading text ≡ accepting m → length (m .name .bytes) ≤ 16
-name-read text {m} e = name-told (subst (Told text) e (told text)) refl
-
-module _ {input text : List ℕ} {fences state : ℕ} (call : AcceptedInput input text fences state) where
-  next-state : (i a : ℕ) → i < call .states → a < ruleOf (call .models) .letters → nextState (call .row i a) < 1000
-  next-state i a h l = by (call .row i a) (call .described .rows i a h l)
-    where
-      by : (x : Answer ℕ ℕ) → Entry (ruleOf (call .models)) (Same (ruleOf (call .models))) (call .described .streams) i a x → nextState x < 1000
-      by refused e = omega arith
-      by (taken o j) e = omega (arith, e .2, call .described .count, call .few-states)
-
-  within-limits : Short (puts (call .output))
-  within-limits = subst Short (call .ran) (run-short (call .models) (call .parts .stream))
+module _ {input text : List ℕ} {fences state : ℕ} (listed : Listed input (gives text fences state)) where
+  abbrev call : AcceptedInput input text fences state
+  call = accepted-input input text fences state listed
 
   -- The run's output in a listing has at most 8,191 bytes,
   pub listed-output : length (call .output) ≤ 8191
-  listed-output = within-limits .0
+  listed-output = within-limits call .0
 
   -- and at most 4,095 fences.
   pub listed-fences : fences ≤ 4095
-  listed-fences = omega (arith, call .fences-are, within-limits .1)
-
-  limited : Limited (listingOf (call .models) (call .states) (ruleOf (call .models) .letters) (call .row) (call .output) (fenceBytes (call .output)))
-  limited = record {
-    short-upstream =
-        omega (arith, unfilled-short (call .models .upstream .name .bytes), name-read (call .parts .upstream) (call .opens .upstream-read));
-    short-target = omega (arith, unfilled-short (call .models .target .name .bytes), name-read (call .parts .target) (call .opens .target-read));
-    few-states = call .few-states;
-    few-letters = omega (arith, few-fences (call .models .upstream) (few-read (call .parts .upstream) (call .opens .upstream-read)));
-    next-states = next-state;
-    short-output = listed-output;
-    few-fences = within-limits .1;
-  }
+  listed-fences = omega (arith, call .fences-are, within-limits call .1)
 
   -- A listing has at most 67,261 bytes.
-  pub listed-text : length text ≤ 67261
-  listed-text = omega (arith, ap length (call .text-is), listing-length _ limited)
-
--- The same of what `list` gives, by its own contract.
-pub longest-listing : {input text : List ℕ} {fences state : ℕ} → Listed input (gives text fences state) → length text ≤ 67261
-longest-listing {input} {text} {fences} {state} h = listed-text (accepted-input input text fences state h)
+  pub longest-listing : length text ≤ 67261
+  longest-listing = omega (arith, ap length (call .text-is), listing-length _ (limited call))

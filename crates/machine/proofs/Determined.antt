@@ -7,7 +7,6 @@ use mathlib.Core.List.{List}
 use native.Mathlib.Omega.{arith}
 use native.Mathlib.Decide.{decLt}
 use borrow.Author.Tests.{ne-eqb}
-use lib.ListN.{length}
 use lib.Seq.{ext-getD}
 use Rattle.ground.specs.Bytes.{at}
 use Rattle.answers.specs.declared.Refusal.{Refusal}

@@ -16,9 +16,8 @@ use Rattle.operations.specs.declared.Byte.{Byte}
 use Rattle.operations.specs.Operation.{byteIs, byteOf, isFence, fenceBytes}
 use Rattle.operations.proofs.Bytes.{access-read}
 use Rattle.rule.specs.declared.way.Way.{Way}
-use Rattle.rule.specs.declared.way.Choice.{Choice}
 use Rattle.rule.specs.Pairs.{Model, settled}
-use Rattle.rule.specs.Rule.{rule, Ran, done, refused, run}
+use Rattle.rule.specs.Rule.{Ran, done, refused, run}
 use Rattle.rule.specs.Stream.{Stream, access, fence, fences}
 use Rattle.rule.proofs.Choices.{rule-fence}
 use Rattle.rule.proofs.Streams.{fences-append}
