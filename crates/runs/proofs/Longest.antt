@@ -2,14 +2,16 @@
 -- first access, since no pair ends there. Assumes nothing.
 use Prim.Native.Nat.{ℕ, suc, _+_, _-_, _*_, _<_, _≤_}
 use mathlib.Core.Path.{_≡_, refl, sym, ap, _∙_}
-use mathlib.Core.Bool.{false}
+use mathlib.Core.Bool.{Bool, true, false, cond}
 use mathlib.Core.List.{List, [], _∷_, _++_, map}
 use mathlib.Core.Option.{Option, none, some}
 use native.Mathlib.Omega.{arith}
+use borrow.Author.Tests.{ltb-false}
+use lib.Dec.{ltb}
 use lib.ListN.{length, length-append, length-map}
 use Rattle.ground.proofs.Truths.{differ, true-false}
 use Rattle.answers.specs.declared.Refusal.{Refusal}
-use Rattle.answers.specs.Given.{gives}
+use Rattle.answers.specs.Given.{gives, refuses}
 use Rattle.operations.specs.declared.Kind.{Kind}
 use Rattle.operations.specs.Operation.{byteOf, fenceBytes}
 use Rattle.rule.specs.declared.way.Way.{Way}
@@ -19,7 +21,10 @@ use Rattle.rule.specs.Rule.{rule, Ran, done, refused, run}
 use Rattle.rule.specs.Stream.{Stream, access, fence}
 use Rattle.rule.proofs.Choices.{rule-fence}
 use Rattle.rule.proofs.Reach.{Reach, fresh, passed, plain, fenced, run-reach}
+use Rattle.shims.specs.declared.Models.{Models}
+use Rattle.shims.specs.Models.{modelOf}
 use Rattle.runs.specs.Bytes.{Judged, good, bad, judged, operations, operationsFrom, fault, outcomeOf, direct}
+use Rattle.runs.specs.Call.{runGiven}
 
 module _ (way : Way) (up target : Model) where
   -- before the first operation no pair is short
@@ -91,3 +96,25 @@ module _ (way : Way) (up target : Model) (stream : List ℕ) {bytes : List ℕ} 
           let counted : fenceBytes (map byteOf out) ≡ fences = cc in
           let none-told : 0 ≡ state = cc in
           (sym counted ∙ ap fenceBytes same, sym none-told)
+
+-- the same of a call over two models, whose stream is within its limit
+pub longest-given : (m : Models) (stream : List ℕ) {bytes : List ℕ} {fences state : ℕ} → runGiven m stream ≡ gives bytes fences state
+    → (length bytes ≤ 8191) × (fences ≡ fenceBytes bytes) × (state ≡ 0)
+longest-given m stream {bytes} {fences} {state} given = by (ltb 4096 (length stream)) refl given
+  where
+    up : Model
+    up = modelOf (m .upstream)
+
+    on : Model
+    on = modelOf (m .target)
+
+    by : (q : Bool) → ltb 4096 (length stream) ≡ q
+        → cond q (refuses Refusal.OverLimit) (direct (m .way) up on stream) ≡ gives bytes fences state
+        → (length bytes ≤ 8191) × (fences ≡ fenceBytes bytes) × (state ≡ 0)
+    by true e h = differ (cc)
+    by false e h =
+        let counted = output-counted (m .way) up on stream h in (
+          omega (arith, ltb-false 4096 (length stream) e, longest-output (m .way) up on stream h),
+          counted .0,
+          counted .1,
+        )
