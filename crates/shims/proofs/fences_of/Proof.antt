@@ -10,7 +10,7 @@ use Rattle.shims.proofs.fences_of.Statement.{statement}
 use Rattle.shims.proofs.fences_of.Tie as tie
 
 slice-aggregate-result : tie.Need-slice-aggregate-result
-slice-aggregate-result c = sym (length-take-le _ _ (c .before .if1 .taken))
+slice-aggregate-result c = sym (length-take-le _ _ (omega arith))
 
 returns : tie.Need-returns
 returns c = search needs
