@@ -14,7 +14,7 @@ use Rattle.answers.specs.Given.{refuses, Delivers}
 use Rattle.operations.specs.Operation.{fenceBytes}
 use Rattle.operations.specs.Alphabet.{accessLetters, letterIn}
 use Rattle.rule.specs.Stream.{Stream, fences}
-use Rattle.rule.specs.Rule.{wayNumber}
+use Rattle.rule.specs.Rule.{wayNumber, onward}
 use Rattle.shims.specs.declared.Models.{Models}
 use Rattle.runs.specs.Bytes.{puts, direct}
 use Rattle.mealy.specs.Runs.{Answer, refused, taken, reached, Same}
@@ -55,6 +55,10 @@ pub record ImageOf (m : Models) (image : List ℕ) : Type 0 where
 abbrev pub stateAfter : Models → List ℕ → Stream → ℕ
 stateAfter m image input = reached (machineOf (up m) (entryAnswer image)) (map letterIn input)
 
+-- two accepted streams, each with its output, get the same further output and refusals on every continuation
+abbrev pub SameFuture : Models → Stream → Stream → Stream → Stream → Type 0
+SameFuture m v out w out′ = (x : Stream) → Own (up m) x → onward (m .way) (up m) (on m) v out x ≡ onward (m .way) (up m) (on m) w out′ x
+
 -- A thread passed through an image block by block, each block a call of its own that starts in the state in which the last one ended: `given` is all
 -- that went in, `put` all that came out, `inserted` all the fences told, of any length.
 pub data Thread (image : List ℕ) : ℕ → List ℕ → List ℕ → ℕ → Type 0 where
@@ -82,3 +86,8 @@ pub data AsOneStream (m : Models) (image given put block : List ℕ) (room : ℕ
       → AsOneStream m image given put block room (answerWith rest (fenceBytes rest) next room)
   stops : (why : Stop) (place : ℕ) → direct (m .way) (up m) (on m) (given ++ block) ≡ refuses (refusalOf why (length given + place))
       → AsOneStream m image given put block room (answers.Answer.Refused (refusalOf why place))
+
+-- the same answer but for the end state, which a direct run does not tell
+abbrev pub endingIn : ℕ → answers.Answer → answers.Answer
+endingIn state (answers.Answer.Done written fences none) = answers.Answer.Done written fences state
+endingIn state (answers.Answer.Refused why) = answers.Answer.Refused why

@@ -3,3 +3,4 @@ pub mod Opened
 pub mod DirectRuns
 pub mod Images
 pub mod Generated
+pub mod Listings
