@@ -81,6 +81,13 @@ module _ {g : Given} {out after : List ℕ} {r : Answer} (d : Delivers g out r a
   pub gave-done : {bytes : List ℕ} {f s : ℕ} → g ≡ gives bytes f s → length bytes ≤ length out → r ≡ Answer.Done (length bytes) f s
   gave-done {bytes} {f} {s} e l = d .answer ∙ ap (λ (x : Given). answerOf x (length out)) e ∙ answer-fits bytes f s (length out) l
 
+  pub gave-bytes : {bytes : List ℕ} {f s : ℕ} → g ≡ gives bytes f s → length bytes ≤ length out → take (length bytes) after ≡ bytes
+  gave-bytes {bytes} {f} {s} e l =
+      let gave = done-gave (subst (λ (x : Answer). Delivers g out x after) (gave-done e l) d) in
+      let same : gives bytes f s ≡ gives (take (length bytes) after) f s = sym e ∙ gave .is in
+      let front : bytes ≡ take (length bytes) after = cc in
+      sym front
+
   -- where what is to be given is no refusal 7 and at most so long, a buffer of that size is never too small
   pub never-too-small : (size : ℕ) → (g ≡ refuses Refusal.BufferTooSmall → ⊥)
       → ((bytes : List ℕ) (f s : ℕ) → g ≡ gives bytes f s → length bytes ≤ size) → size ≤ length out → r ≡ Answer.Refused Refusal.BufferTooSmall → ⊥

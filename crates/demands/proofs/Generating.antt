@@ -9,12 +9,13 @@ use native.Mathlib.Decide.{decLt}
 use native.Mathlib.Omega.{arith}
 use borrow.Author.Tests.{lt-ltb, le-ltb, ne-eqb}
 use lib.Dec.{eqb}
-use lib.ListN.{length}
+use lib.ListN.{length, take}
 use Rattle.ground.specs.Bytes.{at}
 use Rattle.ground.proofs.Truths.{differ}
 use Rattle.answers.specs.declared.Refusal.{Refusal}
 use Rattle.answers.specs.declared.Verdict.{Verdict}
-use Rattle.answers.specs.Given.{Given, gives, refuses, GivenUnless}
+use Rattle.answers.specs.declared.Answer as answers
+use Rattle.answers.specs.Given.{Given, gives, refuses, GivenUnless, Answers}
 use Rattle.operations.specs.Alphabet.{accessLetters}
 use Rattle.rule.specs.Sides.{upstreamOf, targetOf}
 use Rattle.shims.specs.declared.Models.{Models}
@@ -50,6 +51,8 @@ use Rattle.generation.proofs.Theorems.{gives-8-exactly-when, gives-9-exactly-wh
 use Rattle.demands.specs.Opened.{Opened, up, on, OpeningRefused}
 use Rattle.demands.proofs.Opening.{opens-told, told-opens, opened-one, opening-told, told-opening}
 use Rattle.demands.specs.Images.{entryAnswer, ImageOf}
+use Rattle.demands.specs.Generated.{GenerateDone}
+use Rattle.demands.proofs.Delivered.{Gave, done-gave}
 
 module _ {number : ℕ} {upstream target image : List ℕ} (call : Imaged number upstream target image) where
   abbrev m : Models
@@ -188,3 +191,30 @@ module _ {m : Models} {first second : List ℕ} (a : ImageOf m first) (b : Image
 
   pub same-length : length first ≡ length second
   same-length = a .size ∙ ap (λ (n : ℕ). 512 * blocksFor 1 n) same-states ∙ sym (b .size)
+
+-- An accepted call has written the image.
+pub generate-done : (number : ℕ) (upstream target : List ℕ) {out : List ℕ} {written fences state : ℕ} {after : List ℕ}
+    → Answers (ImageGiven number upstream target) out (answers.Answer.Done written fences state) after
+    → GenerateDone number upstream target out written fences state after
+generate-done number upstream target {out} {written} {fences} {state} {after} call =
+    by (generate-is number upstream target (call .given) (call .right)) (gave .is)
+  where
+    gave : Gave (call .given) out written fences state after
+    gave = done-gave (call .delivered)
+
+    by : {g : Given} → GenerateIs number upstream target g → g ≡ gives (take written after) fences state
+        → GenerateDone number upstream target out written fences state after
+    by (unopened o) e = differ (cc)
+    by (opens o (crowded h)) e = differ (cc)
+    by (opens o (overfull f h)) e = differ (cc)
+    by (opens {m = m} o (made {image = image} f h i)) e =
+        let bytes : image ≡ take written after = cc in
+        record {
+          models = m;
+          opened = o;
+          image = subst (ImageOf m) bytes i;
+          no-fences = cc;
+          no-state = cc;
+          fits = gave .fits;
+          rest-kept = gave .rest;
+        }

@@ -7,6 +7,7 @@ pub mod Accepted
 pub mod Walking
 pub mod Threads
 pub mod Generating
+pub mod Listing
 pub mod Demand1
 pub mod Demand2
 pub mod Demand3

@@ -1,33 +1,39 @@
 -- Runs over the image of a machine that describes the rule: the walk is the machine's run, which is the rule's, so it is the direct run, of any length
 -- and in as many blocks as there are. Assumes nothing.
 use Prim.Native.Nat.{ℕ, _+_, _<_, _≤_}
-use mathlib.Core.Path.{_≡_, refl, sym, ap, ap₂, subst, _∙_}
+use mathlib.Core.Path.{_≡_, refl, sym, ap, ap₂, subst, subst₂, _∙_}
+use mathlib.Core.Bool.{Bool, true, false, cond}
+use mathlib.Core.Logic.{_↔_}
 use mathlib.Core.List.{List, [], _∷_, _++_, map, append-assoc}
 use native.Mathlib.Decide.{decLt, decLe}
 use native.Mathlib.Omega.{arith}
 use borrow.Author.Tests.{lt-ltb, le-ltb, le-leb, lt-leb}
+use lib.Dec.{leb}
 use lib.ListN.{length}
 use Rattle.ground.proofs.Truths.{differ}
 use Rattle.answers.specs.declared.Refusal.{Refusal}
 use Rattle.answers.specs.declared.Answer.{Answer}
 use Rattle.answers.specs.declared.Verdict.{Verdict}
-use Rattle.answers.specs.Given.{Given, gives, refuses, answerOf, Delivers}
+use Rattle.answers.specs.Buffer.{answerWith}
+use Rattle.answers.specs.Given.{Given, gives, refuses, answerOf, bufferOf, Delivers}
 use Rattle.operations.specs.declared.Operation.{Operation}
 use Rattle.operations.specs.declared.Byte.{Byte}
 use Rattle.operations.specs.Operation.{byteIs, byteOf, fenceBytes}
-use Rattle.operations.specs.Alphabet.{lettersWith, letterIn}
+use Rattle.operations.specs.Alphabet.{accessLetters, lettersWith, letterIn}
 use Rattle.operations.proofs.Letters.{letter-few, operation-of-letter}
 use Rattle.operations.proofs.Counting.{fences-append}
 use Rattle.rule.specs.Stream.{Stream, access, fences}
-use Rattle.rule.specs.Rule.{Ran, done, refused, run}
+use Rattle.rule.specs.Rule.{Ran, done, refused, onward, run}
 use Rattle.rule.proofs.Theorems.{refused-exactly-when}
 use Rattle.shims.specs.declared.Models.{Models}
 use Rattle.runs.specs.Bytes.{puts, direct}
+use Rattle.runs.specs.Call.{outcome}
 use Rattle.runs.proofs.Counting.{fence-bytes-are-fences}
 use Rattle.mealy.specs.Runs.{Machine, ends}
 use Rattle.mealy.specs.Arrivals.{numbered}
 use Rattle.machine.specs.Spoken.{Letters, operations, spelling, machineOf, spoken}
-use Rattle.machine.proofs.Theorems.{runs-like-the-rule, leads-to-a-state}
+use Rattle.machine.specs.Counted.{SameState}
+use Rattle.machine.proofs.Theorems.{runs-like-the-rule, leads-to-a-state, same-state-exactly-when}
 use Rattle.layout.specs.Barred.{statesOf, upstreamFencesOf, verdictOf}
 use Rattle.layout.proofs.Faultless as layout
 use Rattle.image_runs.specs.declared.Stop.{Stop}
@@ -35,13 +41,14 @@ use Rattle.image_runs.specs.declared.Step.{Step}
 use Rattle.image_runs.specs.Run.{stepAs, stepAt, Walked, ended, stopped, walkedOn, resumed, walked, then, refusalOf, outcomeOf, runAs, runOver}
 use Rattle.image_runs.proofs.Theorems as walks
 use Rattle.demands.specs.Streams.{Reads, Own}
-use Rattle.demands.specs.Opened.{up, on}
+use Rattle.demands.specs.Opened.{Opened, up, on}
 use Rattle.demands.specs.DirectRuns.{StopsAt, NoOperation, NoSuchFence, NoFenceWillDo}
-use Rattle.demands.specs.Images.{entryAnswer, ImageOf, stateAfter, Thread, fresh, block, ThreadDone, AsOneStream, goes-on, stops}
+use Rattle.demands.specs.Images.{endingIn, entryAnswer, ImageOf, stateAfter, SameFuture, Thread, fresh, block, ThreadDone, AsOneStream, goes-on, stops}
 use Rattle.demands.proofs.Accepted.{reads-written, is-right}
 use Rattle.demands.proofs.Delivered.{done-gave}
 use Rattle.demands.proofs.Direct.{Accepts, DirectIs, puts-out, at-4, at-5, at-6, direct-is}
 use Rattle.demands.proofs.Reading.{Below, reads-length, written-bytes}
+use Rattle.demands.proofs.Running.{over, runs, is-run}
 use Rattle.demands.proofs.Walking.{walkOf, told, walks-as-told}
 
 -- what a call over an image gives by its walk, and what it has gone through where it gives bytes
@@ -50,6 +57,10 @@ module _ (image : List ℕ) (s : ℕ) (stream : List ℕ) where
       → runOver image s stream ≡ outcomeOf (walked image s stream)
   unfolding runOver
   over-walk a l k = rw (a, lt-ltb s (statesOf image) l, le-leb (length stream) 4096 k)
+
+  pub over-long : verdictOf image ≡ Verdict.Accepted → s < statesOf image → 4096 < length stream → runOver image s stream ≡ refuses Refusal.OverLimit
+  unfolding runOver
+  over-long a l k = rw (a, lt-ltb s (statesOf image) l, lt-leb (length stream) 4096 k)
 
   pub record Walks (bytes : List ℕ) (fences t : ℕ) : Type 0 where
     pub accepted : verdictOf image ≡ Verdict.Accepted
@@ -84,6 +95,32 @@ module _ (image : List ℕ) (s : ℕ) (stream : List ℕ) where
           = rw (lt-ltb s (statesOf image) l, le-leb (length stream) 4096 k) at z in
           record { accepted = a; start = l; within = k; ends-so = walk (walked image s stream) w }
 
+-- the same given but for the end state, and what that makes of the answer and the buffer
+abbrev givenIn : ℕ → Given → Given
+givenIn t (gives bytes n s) = gives bytes n t
+givenIn t (refuses why) = refuses why
+
+answer-in : (t room : ℕ) (g : Given) → answerOf (givenIn t g) room ≡ endingIn t (answerOf g room)
+unfolding answerWith
+answer-in t room (refuses why) = refl
+answer-in t room (gives bytes n s) = by (leb (length bytes) room)
+  where
+    by : (b : Bool) → cond b (Answer.Done (length bytes) n t) (Answer.Refused Refusal.BufferTooSmall)
+        ≡ endingIn t (cond b (Answer.Done (length bytes) n s) (Answer.Refused Refusal.BufferTooSmall))
+    by true = refl
+    by false = refl
+
+buffer-in : (t : ℕ) (out : List ℕ) (g : Given) → bufferOf (givenIn t g) out ≡ bufferOf g out
+buffer-in t out (refuses why) = refl
+buffer-in t out (gives bytes n s) = refl
+
+same-delivered : (t : ℕ) {g h : Given} {out after after′ : List ℕ} {r r′ : Answer} → g ≡ givenIn t h → Delivers g out r after
+    → Delivers h out r′ after′ → (r ≡ endingIn t r′) × (after ≡ after′)
+same-delivered t {h = h} {out = out} e a b = (
+  a .answer ∙ ap (λ (x : Given). answerOf x (length out)) e ∙ answer-in t (length out) h ∙ sym (ap (endingIn t) (b .answer)),
+  a .buffer ∙ ap (λ (x : Given). bufferOf x out) e ∙ buffer-in t out h ∙ sym (b .buffer),
+)
+
 -- A thread's walk is one walk, over any image.
 pub thread-walks : {image : List ℕ} {s n : ℕ} {given put : List ℕ} → Thread image s given put n → walked image 0 given ≡ ended put n s
 unfolding walked
@@ -100,6 +137,14 @@ letters-own : (n : ℕ) (s : Stream) → Below n s → Letters (lettersWith n) (
 letters-own n [] h = tt
 letters-own n (Operation.Access k ∷ s) h = (omega (arith, letter-few k), letters-own n s h)
 letters-own n (Operation.Fence f ∷ s) h = (omega (arith, h .0), letters-own n s (h .1))
+
+own-letters : (n : ℕ) (x : List ℕ) → Letters (lettersWith n) x → Below n (operations x)
+own-letters n [] h = tt
+own-letters n (a ∷ x) h = look (decLt a accessLetters) (own-letters n x (h .1))
+  where
+    look : Dec (a < accessLetters) → Below n (operations x) → Below n (operations (a ∷ x))
+    look (yes l) rest = rw (lt-ltb a accessLetters l) rest
+    look (no l) rest = rw (le-ltb a accessLetters (omega arith)) (omega (arith, h .0), rest)
 
 pub operations-in : (s : Stream) → operations (map letterIn s) ≡ s
 operations-in [] = refl
@@ -299,3 +344,52 @@ module _ {m : Models} {image : List ℕ} (i : ImageOf m image) where
           subst (AsOneStream m image given put bytes (length out))
           (ap (λ (k : ℕ). answerOf (gives rest k t) (length out)) mine ∙ answered (ended rest f t) e)
           (goes-on rest t (sym is ∙ ap puts whole) small)
+
+  -- Two streams lead to the same state exactly when they have the same future.
+  pub same-state : {s t : ℕ} (v w out out′ : Stream) → s ≡ stateAfter m image v → t ≡ stateAfter m image w → Own (up m) v → Own (up m) w
+      → ran v ≡ done out → ran w ≡ done out′ → (s ≡ t) ↔ SameFuture m v out w out′
+  same-state {s} {t} v w out out′ p q g h e f =
+      let n = length (up m .fences) in
+      let exactly = subst₂ (λ (a b : Stream). (stateAfter m image v ≡ stateAfter m image w) ↔ SameState (m .way) (up m) (on m) a out b out′) (operations-in v)
+      (operations-in w)
+      (same-state-exactly-when (m .way) (up m) (on m) image-few (i .described) (map letterIn v) (map letterIn w) (letters-own n v g) (letters-own n w h)
+      out out′ (ap ran (operations-in v) ∙ e) (ap ran (operations-in w) ∙ f)) in (
+        λ same x own.
+            subst (λ (y : Stream). onward (m .way) (up m) (on m) v out y ≡ onward (m .way) (up m) (on m) w out′ y) (operations-in x)
+            (exactly .0 (sym p ∙ same ∙ q) (map letterIn x) (letters-own n x own)),
+        λ future. p ∙ exactly .1 (λ y l. future (operations y) (own-letters n y l)) ∙ sym q,
+      )
+
+  some-state : 0 < statesOf image
+  some-state = thread-done fresh .state-below
+
+  -- A run over the image from state 0 is the direct run, but for the end state.
+  pub image-run-is-direct : {number : ℕ} {upstream target : List ℕ} → Opened number upstream target m → (stream : List ℕ) {out : List ℕ} {r r′ : Answer}
+      {after after′ : List ℕ} → Delivers (runOver image 0 stream) out r after → Delivers (outcome number upstream target stream) out r′ after′
+      → (state : ℕ) × (state < statesOf image) × (r ≡ endingIn state r′) × (after ≡ after′)
+  image-run-is-direct {number} {upstream} {target} o stream {out} {r} {r′} {after} {after′} a b = by (decLe (length stream) 4096)
+    where
+      ended-in : (t : ℕ) → t < statesOf image → runOver image 0 stream ≡ givenIn t (outcome number upstream target stream)
+          → (state : ℕ) × (state < statesOf image) × (r ≡ endingIn state r′) × (after ≡ after′)
+      ended-in t l e =
+          let same = same-delivered t e a b in
+          (t, l, same .0, same .1)
+
+      walked-so : length stream ≤ 4096 → {g : Given} → outcome number upstream target stream ≡ g → WalkedAs stream g
+          → (state : ℕ) × (state < statesOf image) × (r ≡ endingIn state r′) × (after ≡ after′)
+      walked-so l is (stops-at why k e) =
+          ended-in 0 some-state (over-walk image 0 stream (i .accepted) some-state l ∙ ap outcomeOf e ∙ sym (ap (givenIn 0) is))
+      walked-so l is (ends-at {output = output} c e) =
+          let t = stateAfter m image (c .input) in
+          let placed = is-right (m .way) (up m) (on m) (c .input) output (c .accepted) .placing .its in
+          let count : fenceBytes (map byteOf output) ≡ fences output = fence-bytes-are-fences (length (on m .fences)) image-few output placed in
+          ended-in t (state-small (c .input) output (c .input-own) (c .accepted))
+          (over-walk image 0 stream (i .accepted) some-state l ∙ ap outcomeOf e ∙ ap (λ (n : ℕ). gives (map byteOf output) n t) (sym count)
+          ∙ sym (ap (givenIn t) is))
+
+      by : Dec (length stream ≤ 4096) → (state : ℕ) × (state < statesOf image) × (r ≡ endingIn state r′) × (after ≡ after′)
+      by (yes l) = walked-so l (is-run number upstream target stream (runs o l (direct-is m stream))) (walked-as stream)
+      by (no l) =
+          let long : 4096 < length stream = omega arith in
+          ended-in 0 some-state
+          (over-long image 0 stream (i .accepted) some-state long ∙ sym (ap (givenIn 0) (is-run number upstream target stream (over o long))))
