@@ -50,14 +50,14 @@ image-read-one image a b =
 -- and `shim_list`
 pub list-one : {input out : List ℕ} {n n′ : ℕ} {numbers numbers′ after after′ : List ℕ} → Tells (Answers (Listed input) out) n numbers after
     → Tells (Answers (Listed input) out) n′ numbers′ after′ → (n ≡ n′) × (numbers ≡ numbers′) × (after ≡ after′)
-list-one a b = tells-one (λ x y s t p q. listed.list-one _ _ p q) a b
+list-one a b = tells-one (λ x y s t p q. listed.list-one _ p q) a b
 
 -- and `shim_generate`
 pub generate-one : (number : ℕ) (upstream target : List ℕ) {out : List ℕ} {n n′ : ℕ} {numbers numbers′ after after′ : List ℕ}
     → Tells (Answers (ImageGiven number upstream target) out) n numbers after
     → Tells (Answers (ImageGiven number upstream target) out) n′ numbers′ after′
     → (n ≡ n′) × (numbers ≡ numbers′) × (after ≡ after′)
-generate-one number upstream target a b = tells-one (λ x y s t p q. generated.generate-one number upstream target _ p q) a b
+generate-one number upstream target a b = tells-one (λ x y s t p q. generated.generate-one number upstream target p q) a b
 
 -- and `shim_compare`
 pub compare-one : (compared : Compared) {n n′ relation relation′ : ℕ} {numbers numbers′ : List ℕ} → TellsRelation compared n relation numbers
