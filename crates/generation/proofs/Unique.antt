@@ -24,7 +24,7 @@ pub one-given : (number : ℕ) (upstream target : List ℕ) (g h : Given)
     → ImageGiven number upstream target g → ImageGiven number upstream target h → g ≡ h
 one-given number upstream target = given-one (opened number upstream target) MachineGiven machine-one
 
-pub generate-one : (way : ℕ) (upstream target out : List ℕ) {r r′ : Answer} {after after′ : List ℕ}
+pub generate-one : (way : ℕ) (upstream target : List ℕ) {out after after′ : List ℕ} {r r′ : Answer}
     → Answers (ImageGiven way upstream target) out r after → Answers (ImageGiven way upstream target) out r′ after′
     → (r ≡ r′) × (after ≡ after′)
-generate-one way upstream target out = answers-one (one-given way upstream target)
+generate-one way upstream target = answers-one (one-given way upstream target)

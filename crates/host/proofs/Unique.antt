@@ -44,12 +44,12 @@ pub generate-one : (way : ℕ) (upstream target : List ℕ) {out : List ℕ} {r 
     → Tells (Answers (ImageGiven way upstream target) out) r answer after
     → Tells (Answers (ImageGiven way upstream target) out) r′ answer′ after′
     → (r ≡ r′) × (answer ≡ answer′) × (after ≡ after′)
-generate-one way upstream target a b = same-told (λ x y s t p q. generated.generate-one way upstream target _ p q) a b
+generate-one way upstream target a b = same-told (λ x y s t p q. generated.generate-one way upstream target p q) a b
 
 pub list-one : (input : List ℕ) {out : List ℕ} {r r′ : ℕ} {answer answer′ after after′ : List ℕ}
     → Tells (Answers (Listed input) out) r answer after → Tells (Answers (Listed input) out) r′ answer′ after′
     → (r ≡ r′) × (answer ≡ answer′) × (after ≡ after′)
-list-one input a b = same-told (λ x y s t p q. listed.list-one _ _ p q) a b
+list-one input a b = same-told (λ x y s t p q. listed.list-one _ p q) a b
 
 pub image-read-one : (image : List ℕ) {out header header′ : List ℕ} {r r′ : ℕ} {answer answer′ after after′ : List ℕ}
     → Tells (Rewrites image out header) r answer after → Tells (Rewrites image out header′) r′ answer′ after′

@@ -10,10 +10,10 @@ use Rattle.listing.specs.Printed.{refusalLine}
 use Rattle.listing.specs.Listed.{Listed}
 use Rattle.listing.proofs.Determined.{one-listing}
 
-pub list-one : (input out : List ℕ) {r r′ : Answer} {after after′ : List ℕ} → Answers (Listed input) out r after
+pub list-one : (input : List ℕ) {out after after′ : List ℕ} {r r′ : Answer} → Answers (Listed input) out r after
     → Answers (Listed input) out r′ after′ → (r ≡ r′) × (after ≡ after′)
-list-one input out = answers-one (λ g h a b. one-listing {input = input} a b)
+list-one input = answers-one (λ g h a b. one-listing {input = input} a b)
 
-pub refusal-line-one : (why : Refusal) (out : List ℕ) {r r′ : Answer} {after after′ : List ℕ} → Delivers (gives (refusalLine why) 0 0) out r after
+pub refusal-line-one : (why : Refusal) {out after after′ : List ℕ} {r r′ : Answer} → Delivers (gives (refusalLine why) 0 0) out r after
     → Delivers (gives (refusalLine why) 0 0) out r′ after′ → (r ≡ r′) × (after ≡ after′)
-refusal-line-one why out p q = delivers-one refl p q
+refusal-line-one why p q = delivers-one refl p q
