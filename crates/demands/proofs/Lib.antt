@@ -11,3 +11,5 @@ pub mod Listing
 pub mod Demand1
 pub mod Demand2
 pub mod Demand3
+pub mod Border
+pub mod Sizes

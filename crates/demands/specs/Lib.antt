@@ -4,3 +4,4 @@ pub mod DirectRuns
 pub mod Images
 pub mod Generated
 pub mod Listings
+pub mod Border
