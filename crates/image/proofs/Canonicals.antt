@@ -20,7 +20,7 @@ use Rattle.layout.specs.Barred.{wrong, checkOf, blockCount, wrongCount, barredF
 use Rattle.layout.specs.Barred.{barredAs, barred, verdictOf}
 use Rattle.image.specs.Image.{listed, word, half, used, valueAs, valueAt, checkFor, byteAt, sizeOf, imageOf, headerOf, entryWord, rowsOf}
 use Rattle.image.specs.Image.{AccessWord, Canonical}
-use Rattle.layout.proofs.Inverse.{all-nowhere}
+use Rattle.ground.proofs.Lowest.{none-nowhere}
 use Rattle.image.proofs.Fronts.{length-listed, at-listed, is-listed, front-whole}
 use Rattle.layout.proofs.Sums.{check-same}
 use Rattle.layout.specs.inner.Standing.{Stands}
@@ -235,8 +235,8 @@ module _ (h : Header) (rows : List ℕ) (can : Canonical h rows) where
   canonical-accepted =
       rw (
         le-ltb limit (length (imageOf h rows)) (omega (arith, length-image, can .states)),
-        all-nowhere (wrong (imageOf h rows)) (blockCount (imageOf h rows)) 0 (λ b k l. no-wrong b (omega arith)),
-        all-nowhere (barred (imageOf h rows)) (length (imageOf h rows)) 0 (λ i k l. no-barred i (omega arith)),
+        none-nowhere (wrong (imageOf h rows)) 0 (blockCount (imageOf h rows)) (λ b k l. no-wrong b (omega arith)),
+        none-nowhere (barred (imageOf h rows)) 0 (length (imageOf h rows)) (λ i k l. no-barred i (omega arith)),
       )
 
   -- and reads as the same machine

@@ -21,7 +21,8 @@ use Rattle.layout.specs.Layout.{limit, blocksFor, standsAt, position}
 use Rattle.layout.specs.Barred.{wrong, blockCount, wrongCount, barredFence, nextBelow, statesOf, upstreamFencesOf, targetFencesOf}
 use Rattle.layout.specs.Barred.{barredAs, barred, lowestWrong, lowestBarred, stages, verdictOf}
 use Rattle.layout.specs.inner.Faultless.{Faultless, Block}
-use Rattle.layout.proofs.Inverse.{neither, chosen, equal, nowhere}
+use Rattle.ground.proofs.Lowest.{lowest-nowhere}
+use Rattle.layout.proofs.Inverse.{neither, chosen, equal}
 use Rattle.layout.proofs.Standing.{fence-at, next-at, onward-at, within-image}
 
 -- the stages of an acceptance
@@ -44,8 +45,8 @@ accepted-faultless image e = go (ltb limit (length image)) refl e
         let s = staged _ _ w in
         record {
           fits = ltb-false limit (length image) h;
-          blocks = λ b l. nowhere (wrong image) (blockCount image) 0 (s .0) b (omega arith) (omega arith);
-          bytes = λ i l. nowhere (barred image) (length image) 0 (s .1) i (omega arith) (omega arith);
+          blocks = λ b l. lowest-nowhere (wrong image) 0 (blockCount image) (s .0) b (omega arith) (omega arith);
+          bytes = λ i l. lowest-nowhere (barred image) 0 (length image) (s .1) i (omega arith) (omega arith);
         }
 
 right-block : (image : List ℕ) (b : ℕ) → wrong image b ≡ false → Block image b

@@ -1,13 +1,13 @@
 -- Which fence a way takes, and when it takes none. Assumes nothing.
-use Prim.Native.Nat.{ℕ, zero, suc, _+_, _-_, _≤_, _<_}
+use Prim.Native.Nat.{ℕ, zero, suc, _-_, _<_}
 use mathlib.Core.Path.{_≡_, refl, sym, ap, _∙_}
 use mathlib.Core.Bool.{Bool, true, false, cond}
 use mathlib.Core.List.{List, _++_}
-use native.Mathlib.Decide.{decLt}
 use native.Mathlib.Omega.{arith}
 use lib.ListN.{length}
 use Rattle.ground.specs.declared.Found.{Found}
 use Rattle.ground.specs.Lowest.{lowest}
+use Rattle.ground.proofs.Lowest.{lowest-takes, lowest-nowhere}
 use Rattle.ground.proofs.Truths.{differ, not-both}
 use Rattle.tables.specs.declared.table.Table.{Table}
 use Rattle.tables.specs.Table.{atLeast}
@@ -56,51 +56,6 @@ module _ (f : ℕ → Bool) where
       let e : n ≡ suc (n - 1) = omega arith in
       ap (last f) e ∙ ap (λ (b : Bool). cond b (Choice.Fence (n - 1)) Choice.Refused) p
 
-  -- what the search for the lowest finds from i on: its first step, by the test there
-  lowest-at : (i n : ℕ) (b : Bool) → f i ≡ b → (x : Found) → lowest f i (suc n) ≡ x → cond b (Found.At i) (lowest f (suc i) n) ≡ x
-  unfolding lowest
-  lowest-at i n b p x e = sym (ap (λ (b : Bool). cond b (Found.At i) (lowest f (suc i) n)) p) ∙ e
-
-  -- none will do from i up to g
-  abbrev NoneFrom : ℕ → ℕ → Type 0
-  NoneFrom i g = (h : ℕ) → i ≤ h → h < g → f h ≡ false
-
-  none-more : (i g : ℕ) → f i ≡ false → NoneFrom (suc i) g → NoneFrom i g
-  none-more i g p rest h l u = at (decLt i h)
-    where
-      at : Dec (i < h) → f h ≡ false
-      at (yes m) = rest h m u
-      at (no m) =
-          let e : h ≡ i = omega arith in
-          ap f e ∙ p
-
-  lowest-takes : (i n g : ℕ) → lowest f i n ≡ Found.At g → (i ≤ g) × (g < i + n) × (f g ≡ true) × NoneFrom i g
-  unfolding lowest
-  lowest-takes i zero g e = differ (cc)
-  lowest-takes i (suc n) g e = at (f i) refl (lowest-takes (suc i) n g)
-    where
-      at : (b : Bool) → f i ≡ b
-          → (lowest f (suc i) n ≡ Found.At g → (suc i ≤ g) × (g < suc i + n) × (f g ≡ true) × NoneFrom (suc i) g)
-          → (i ≤ g) × (g < i + suc n) × (f g ≡ true) × NoneFrom i g
-      at true p rest =
-          let q : Found.At i ≡ Found.At g = lowest-at i n true p (Found.At g) e in
-          let m : i ≡ g = cc in
-          (omega arith, omega arith, sym (ap f m) ∙ p, λ h l u. absurd (omega arith))
-      at false p rest =
-          let w = rest (lowest-at i n false p (Found.At g) e) in
-          (omega (arith, w .0), omega (arith, w .1), w .2, none-more i g p (w .3))
-
-  lowest-nowhere : (i n : ℕ) → lowest f i n ≡ Found.Nowhere → NoneFrom i (i + n)
-  unfolding lowest
-  lowest-nowhere i zero e h l u = absurd (omega arith)
-  lowest-nowhere i (suc n) e h l u = at (f i) refl (lowest-nowhere (suc i) n)
-    where
-      at : (b : Bool) → f i ≡ b → (lowest f (suc i) n ≡ Found.Nowhere → NoneFrom (suc i) (suc i + n)) → f h ≡ false
-      at true p rest =
-          let q : Found.At i ≡ Found.Nowhere = lowest-at i n true p Found.Nowhere e in
-          differ (cc)
-      at false p rest = none-more i (suc i + n) p (rest (lowest-at i n false p Found.Nowhere e)) h l (omega arith)
-
   -- what the last is, if it passes
   last-is : (n : ℕ) (b : Bool) → f n ≡ b → (c : Choice) → cond (f n) (Choice.Fence n) Choice.Refused ≡ c
       → cond b (Choice.Fence n) Choice.Refused ≡ c
@@ -110,7 +65,7 @@ module _ (f : ℕ → Bool) where
 
   pub pick-takes : (way : Way) (n g : ℕ) → pick way f n ≡ Choice.Fence g → Takes way f n g
   pick-takes Way.Sparing n g e =
-      let w = lowest-takes 0 n g (taken-fence (lowest f 0 n) g e) in
+      let w = lowest-takes f 0 n g (taken-fence (lowest f 0 n) g e) in
       (omega (arith, w .1), w .2, λ h l. w .3 h (omega arith) l)
   pick-takes Way.Full zero g e = differ (cc)
   pick-takes Way.Full (suc n) g e = at (f n) refl
@@ -125,7 +80,7 @@ module _ (f : ℕ → Bool) where
           differ (cc)
 
   pick-refused : (way : Way) (n : ℕ) → pick way f n ≡ Choice.Refused → NoneWillDo way f n
-  pick-refused Way.Sparing n e = λ g l. lowest-nowhere 0 n (taken-refused (lowest f 0 n) e) g (omega arith) (omega arith)
+  pick-refused Way.Sparing n e = λ g l. lowest-nowhere f 0 n (taken-refused (lowest f 0 n) e) g (omega arith) (omega arith)
   pick-refused Way.Full zero e = λ g m. absurd (omega arith)
   pick-refused Way.Full (suc n) e = at (f n) refl
     where
