@@ -16,7 +16,13 @@ use Rattle.operations.specs.Operation.{byteOf}
 use Rattle.shims.specs.declared.Models.{Models}
 use Rattle.runs.specs.Call.{outcome}
 use Rattle.demands.specs.DirectRuns.{RunRefused, opening, over-limit, no-operation, no-such-fence, no-fence-will-do, too-small}
+use Rattle.answers.specs.declared.Verdict.{Verdict}
+use Rattle.layout.specs.Barred.{verdictOf}
+use Rattle.image.specs.Calls.{writtenBack, Rewrites}
+use Rattle.image_runs.specs.Run.{runOver}
 use Rattle.generation.specs.Generating.{ImageGiven}
+use Rattle.demands.specs.ImageCalls.{ImageRefused, ReadRefused, ImageRunRefused}
+use Rattle.demands.proofs.Images.{verdict-told, told-verdict, back-told, told-back, run-told, told-run}
 use Rattle.demands.specs.Generated as generate
 use Rattle.demands.specs.Generated.{GenerateRefused, situations, states, ImageExceeds}
 use Rattle.demands.proofs.Delivered.{Withheld, refused, exceeds, refused-withheld, withheld-refused}
@@ -128,3 +134,22 @@ module _ (number : ℕ) (upstream target : List ℕ) {out : List ℕ} {r : Answe
       told-given (situations o h) = refused (as-8 o (given-models o .0 (call .right)) .1 h)
       told-given (states o f h) = refused (as-9 o (given-models o .0 (call .right)) .1 (f, h))
       told-given (generate.too-small o x) = small x (machine-is o (given-models o .0 (call .right)))
+
+-- An image is refused exactly when 01 says, and so are the calls that read one and write it back, and run over one.
+pub image-refused-exactly-when : (image : List ℕ) (why : Refusal) → (verdictOf image ≡ Verdict.Refused why) ↔ ImageRefused image why
+image-refused-exactly-when image why = (verdict-told image, told-verdict image)
+
+pub image-read-refused-exactly-when : (image : List ℕ) {out header : List ℕ} {r : Answer} {after : List ℕ} → Rewrites image out header r after
+    → (why : Refusal) → (r ≡ Answer.Refused why) ↔ ReadRefused image (length out) why
+image-read-refused-exactly-when image {out} {after = after} call why = (
+  λ e. back-told image (length out) (refused-withheld (subst (λ (x : Answer). Delivers (writtenBack image) out x after) e (call .delivered)) .1),
+  λ h. withheld-refused (call .delivered) (told-back image (length out) h),
+)
+
+pub image-run-refused-exactly-when : (image : List ℕ) (start : ℕ) (stream : List ℕ) {out : List ℕ} {r : Answer} {after : List ℕ}
+    → Delivers (runOver image start stream) out r after → (why : Refusal)
+    → (r ≡ Answer.Refused why) ↔ ImageRunRefused image start stream (length out) why
+image-run-refused-exactly-when image start stream {out} {after = after} call why = (
+  λ e. run-told image start stream (length out) (refused-withheld (subst (λ (x : Answer). Delivers (runOver image start stream) out x after) e call) .1),
+  λ h. withheld-refused call (told-run image start stream (length out) h),
+)

@@ -5,3 +5,4 @@ pub mod Images
 pub mod Generated
 pub mod Listings
 pub mod Border
+pub mod ImageCalls
