@@ -71,6 +71,11 @@ refused-withheld {g} {out} {after} {why} d = by g refl (d .answer) (d .buffer)
             let same : Refusal.BufferTooSmall ≡ why = cc in
             (b ∙ buffer-not bytes out (omega arith), subst (Withheld g (length out)) same (exceeds e (omega arith)))
 
+-- a call that has a refusal to give is refused with it
+pub refused-as : {g : Given} {room : ℕ} {is why : Refusal} → g ≡ refuses is → Withheld g room why → is ≡ why
+refused-as e (refused h) = cc
+refused-as e (exceeds h l) = differ (cc)
+
 -- and the other way round
 module _ {g : Given} {out after : List ℕ} {r : Answer} (d : Delivers g out r after) where
   pub withheld-refused : {why : Refusal} → Withheld g (length out) why → r ≡ Answer.Refused why

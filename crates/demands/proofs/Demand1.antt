@@ -15,12 +15,19 @@ use Rattle.answers.specs.Given.{Given, refuses, Delivers, Answers}
 use Rattle.operations.specs.Operation.{byteOf}
 use Rattle.shims.specs.declared.Models.{Models}
 use Rattle.runs.specs.Call.{outcome}
-use Rattle.demands.specs.DirectRuns.{RunRefused, opening, over-limit, no-operation, no-such-fence, no-fence-will-do, too-small}
+use Rattle.demands.specs.DirectRuns.{over-limit, no-operation, no-such-fence, no-fence-will-do, RunRefused, opening, at-stream, too-small}
 use Rattle.answers.specs.declared.Verdict.{Verdict}
 use Rattle.layout.specs.Barred.{verdictOf}
 use Rattle.image.specs.Calls.{writtenBack, Rewrites}
 use Rattle.image_runs.specs.Run.{runOver}
+use Rattle.writing.specs.Calls.{backGiven}
+use Rattle.built_ins.specs.BuiltIns.{builtInGiven}
+use Rattle.comparison.specs.declared.Compared.{Compared}
+use Rattle.comparison.specs.Comparison.{comparing}
+use Rattle.host.specs.Border.{comparedAs, relationOf, TellsRelation}
 use Rattle.generation.specs.Generating.{ImageGiven}
+use Rattle.demands.specs.ModelCalls.{ModelRefused, BuiltInRefused, ComparedAs}
+use Rattle.demands.proofs.Models.{model-told, told-model, built-in-told, told-built-in, compared-told}
 use Rattle.demands.specs.ImageCalls.{ImageRefused, ReadRefused, ImageRunRefused}
 use Rattle.demands.proofs.Images.{verdict-told, told-verdict, back-told, told-back, run-told, told-run}
 use Rattle.demands.specs.Generated as generate
@@ -56,13 +63,13 @@ module _ {number : ℕ} {upstream target stream out : List ℕ} {r : Answer} {af
           → RunRefused number upstream target stream (length out) w
       by-run (unopened o) (refused e) = as-told (opening o) e
       by-run (unopened o) (exceeds e l) = differ (cc)
-      by-run (over o k) (refused e) = as-told (over-limit o k) e
+      by-run (over o k) (refused e) = as-told (at-stream o (over-limit k)) e
       by-run (over o k) (exceeds e l) = differ (cc)
-      by-run (runs o k (at-4 place s)) (refused e) = as-told (no-operation place o k s) e
+      by-run (runs o k (at-4 place s)) (refused e) = as-told (at-stream o (no-operation place k s)) e
       by-run (runs o k (at-4 place s)) (exceeds e l) = differ (cc)
-      by-run (runs o k (at-5 place s)) (refused e) = as-told (no-such-fence place o k s) e
+      by-run (runs o k (at-5 place s)) (refused e) = as-told (at-stream o (no-such-fence place k s)) e
       by-run (runs o k (at-5 place s)) (exceeds e l) = differ (cc)
-      by-run (runs o k (at-6 place s)) (refused e) = as-told (no-fence-will-do place o k s) e
+      by-run (runs o k (at-6 place s)) (refused e) = as-told (at-stream o (no-fence-will-do place k s)) e
       by-run (runs o k (at-6 place s)) (exceeds e l) = differ (cc)
       by-run (runs o k (puts-out a)) (refused e) = differ (cc)
       by-run (runs o k (puts-out {output = output} a)) (exceeds {bytes = bytes} e l) =
@@ -84,10 +91,10 @@ module _ {number : ℕ} {upstream target stream out : List ℕ} {r : Answer} {af
       told-given : {w : Refusal} → RunRefused number upstream target stream (length out) w
           → Withheld (outcome number upstream target stream) (length out) w
       told-given (opening o) = refused (is-run number upstream target stream (unopened o))
-      told-given (over-limit o l) = refused (is-run number upstream target stream (over o l))
-      told-given (no-operation place o l s) = refused (is-run number upstream target stream (runs o l (at-4 place s)))
-      told-given (no-such-fence place o l s) = refused (is-run number upstream target stream (runs o l (at-5 place s)))
-      told-given (no-fence-will-do place o l s) = refused (is-run number upstream target stream (runs o l (at-6 place s)))
+      told-given (at-stream o (over-limit l)) = refused (is-run number upstream target stream (over o l))
+      told-given (at-stream o (no-operation place l s)) = refused (is-run number upstream target stream (runs o l (at-4 place s)))
+      told-given (at-stream o (no-such-fence place l s)) = refused (is-run number upstream target stream (runs o l (at-5 place s)))
+      told-given (at-stream o (no-fence-will-do place l s)) = refused (is-run number upstream target stream (runs o l (at-6 place s)))
       told-given (too-small o l x) =
           exceeds (is-run number upstream target stream
           (runs o l (puts-out (record { input = x .input; input-read = x .input-read; input-own = x .input-own; accepted = x .accepted }))))
@@ -153,3 +160,23 @@ image-run-refused-exactly-when image start stream {out} {after = after} call why
   λ e. run-told image start stream (length out) (refused-withheld (subst (λ (x : Answer). Delivers (runOver image start stream) out x after) e call) .1),
   λ h. withheld-refused call (told-run image start stream (length out) h),
 )
+
+-- A model's text that is read and written back, and a built-in model, are refused exactly when 01 says.
+pub model-refused-exactly-when : (text : List ℕ) {out : List ℕ} {r : Answer} {after : List ℕ} → Delivers (backGiven text) out r after → (why : Refusal)
+    → (r ≡ Answer.Refused why) ↔ ModelRefused text (length out) why
+model-refused-exactly-when text {out} {after = after} call why = (
+  λ e. model-told text (length out) (refused-withheld (subst (λ (x : Answer). Delivers (backGiven text) out x after) e call) .1),
+  λ h. withheld-refused call (told-model text (length out) h),
+)
+
+pub built-in-refused-exactly-when : (number : ℕ) {out : List ℕ} {r : Answer} {after : List ℕ} → Delivers (builtInGiven number) out r after
+    → (why : Refusal) → (r ≡ Answer.Refused why) ↔ BuiltInRefused number (length out) why
+built-in-refused-exactly-when number {out} {after = after} call why = (
+  λ e. built-in-told number (length out) (refused-withheld (subst (λ (x : Answer). Delivers (builtInGiven number) out x after) e call) .1),
+  λ h. withheld-refused call (told-built-in number (length out) h),
+)
+
+-- Two models compare as 01 says, refusals too: `compared` is what the call's relation and numbers are those of.
+pub compared-as : (first second : List ℕ) {number relation : ℕ} {numbers : List ℕ} → TellsRelation (comparing first second) number relation numbers
+    → (compared : Compared) × ComparedAs first second compared × (relation ≡ relationOf compared) × (numbers ≡ numbersOf (comparedAs compared))
+compared-as first second call = (comparing first second, compared-told first second, call .set, call .told)

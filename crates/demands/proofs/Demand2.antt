@@ -29,7 +29,13 @@ use Rattle.layout.specs.Barred.{verdictOf}
 use Rattle.image.specs.Calls.{writtenBack, headerAs, Rewrites}
 use Rattle.image_runs.specs.Run.{runOver}
 use Rattle.image_runs.proofs.AnyImage as any
+use Rattle.models.specs.declared.model.Model.{Model}
+use Rattle.models.specs.Text.{textOf}
+use Rattle.models.specs.Told.{Told, accepting}
+use Rattle.writing.specs.Calls.{backGiven}
+use Rattle.built_ins.specs.BuiltIns.{builtIn, builtInGiven}
 use Rattle.generation.specs.Generating.{ImageGiven}
+use Rattle.demands.proofs.Models.{told-given, in-range}
 use Rattle.listing.specs.Listed.{Listed}
 use Rattle.demands.specs.Streams.{Reads, Own}
 use Rattle.demands.specs.Opened.{Opened, up, on}
@@ -158,3 +164,15 @@ module _ {input out : List ℕ} {written count state : ℕ} {after : List ℕ} (
     gave-done call (listed .ran) l ∙ ap (λ (n : ℕ). Answer.Done (length (listed .output)) n 0) (sym (listed .counted)),
     gave-bytes call (listed .ran) l,
   )
+
+-- A model's text that is accepted is written back unchanged,
+pub model-written-back : (text : List ℕ) {m : Model} → Told text (accepting m) → {out : List ℕ} {r : Answer} {after : List ℕ}
+    → Delivers (backGiven text) out r after → length text ≤ length out
+    → (r ≡ Answer.Done (length text) 0 0) × (take (length text) after ≡ text)
+model-written-back text t call l = (gave-done call (told-given t) l, gave-bytes call (told-given t) l)
+
+-- and a built-in model's text is that of the model in 01's tables.
+pub built-in-written : (number : ℕ) → number ≤ 15 → {out : List ℕ} {r : Answer} {after : List ℕ} → Delivers (builtInGiven number) out r after
+    → length (textOf (builtIn number)) ≤ length out
+    → (r ≡ Answer.Done (length (textOf (builtIn number))) 0 0) × (take (length (textOf (builtIn number))) after ≡ textOf (builtIn number))
+built-in-written number n {out} call l = (gave-done call (in-range number (length out) n) l, gave-bytes call (in-range number (length out) n) l)

@@ -21,7 +21,7 @@ use Rattle.image.specs.Calls.{writtenBack}
 use Rattle.image_runs.specs.Run.{Walked, ended, stopped, walked, outcomeOf, runAs, runOver}
 use Rattle.demands.specs.ImageCalls as calls
 use Rattle.demands.specs.ImageCalls.{ImageRefused, broken, barred-value, ImageRunRefused, no-such-state, stops}
-use Rattle.demands.proofs.Delivered.{Withheld, refused, exceeds}
+use Rattle.demands.proofs.Delivered.{Withheld, refused, exceeds, refused-as}
 use Rattle.demands.proofs.Threads.{over-walk, over-long}
 
 module _ (image : List ℕ) where
@@ -86,11 +86,6 @@ module _ (image : List ℕ) (room : ℕ) where
   unfolding writtenBack
   told-back (calls.image-refused h) = refused (ap (λ (v : Verdict). unlessRefused v (gives image 0 0)) (told-verdict image h))
   told-back (calls.too-small a l) = exceeds (ap (λ (v : Verdict). unlessRefused v (gives image 0 0)) a) l
-
--- a call that has a refusal to give is refused with it
-refused-as : {g : Given} {room : ℕ} {is why : Refusal} → g ≡ refuses is → Withheld g room why → is ≡ why
-refused-as e (refused h) = cc
-refused-as e (exceeds h l) = differ (cc)
 
 -- And by a run over an image.
 module _ (image : List ℕ) (start : ℕ) (stream : List ℕ) (room : ℕ) where

@@ -6,6 +6,7 @@ pub mod Running
 pub mod Accepted
 pub mod Walking
 pub mod Threads
+pub mod Models
 pub mod Images
 pub mod Generating
 pub mod Listing

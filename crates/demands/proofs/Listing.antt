@@ -1,7 +1,7 @@
 -- What a call has done that gives a listing: it has gone through its stages, and what it tells is what its own theorem says (`accepted-input` in listing),
 -- with the texts' models and the run in 01's words. Assumes nothing.
 use Prim.Native.Nat.{ℕ}
-use mathlib.Core.Path.{_≡_, sym, ap, subst, _∙_}
+use mathlib.Core.Path.{sym, ap, subst, _∙_}
 use mathlib.Core.List.{List}
 use lib.ListN.{take}
 use Rattle.answers.specs.declared.Answer.{Answer}
@@ -12,7 +12,7 @@ use Rattle.shims.specs.declared.Models.{Models}
 use Rattle.shims.specs.declared.Opening.{Opening}
 use Rattle.shims.specs.Opening.{wayOf, onOpened, Opens}
 use Rattle.shims.proofs.Theorems.{read-written, opens-so}
-use Rattle.runs.specs.Call.{runGiven, outcome}
+use Rattle.runs.specs.Call.{runGiven}
 use Rattle.listing.specs.Listed.{Listed}
 use Rattle.listing.specs.Accepted.{AcceptedInput}
 use Rattle.listing.proofs.Theorems.{accepted-input}

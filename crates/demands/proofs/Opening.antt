@@ -70,10 +70,10 @@ refused-reading (departs l n h) e = ap (λ (v : Verdict). record { verdict = v; 
 refused-reading (repeated d k l f t s) e = ap (λ (v : Verdict). record { verdict = v; model = nothing }) e
 refused-reading (accepted d l f t s) e = differ (cc)
 
-told-refused : (t : List ℕ) {why : Refusal} → reading t .verdict ≡ Verdict.Refused why → Told t (refusing why)
+pub told-refused : (t : List ℕ) {why : Refusal} → reading t .verdict ≡ Verdict.Refused why → Told t (refusing why)
 told-refused t e = subst (Told t) (refused-reading (told t) e) (told t)
 
-told-accepted : (t : List ℕ) → reading t .verdict ≡ Verdict.Accepted → Told t (accepting (reading t .model))
+pub told-accepted : (t : List ℕ) → reading t .verdict ≡ Verdict.Accepted → Told t (accepting (reading t .model))
 told-accepted t e = subst (Told t) (ap (λ (v : Verdict). record { verdict = v; model = reading t .model }) e) (told t)
 
 -- an opening that is refused is refused by the first of its three that is

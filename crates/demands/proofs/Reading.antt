@@ -53,7 +53,7 @@ read-then n at (b ∷ bytes) (op ∷ s) rest e h =
     let more = read-then n (suc at) bytes s rest (first .1) (own .1) in
     let z : suc at + length bytes ≡ at + suc (length bytes) = omega arith in (
       ap (λ (x : Judged). operationsFrom x (operations n (suc at) (bytes ++ rest))) j
-      ∙ ap (λ (l : Stream). op ∷ l) (more .0 ∙ ap (λ (k : ℕ). s ++ operations n k rest) z),
+          ∙ ap (λ (l : Stream). op ∷ l) (more .0 ∙ ap (λ (k : ℕ). s ++ operations n k rest) z),
       ap (λ (x : Judged). faultFrom x (fault n (suc at) (bytes ++ rest))) j ∙ more .1 ∙ ap (λ (k : ℕ). fault n k rest) z,
     )
 

@@ -1,9 +1,9 @@
 -- The sizes that include/shim.h calls never too small: a call with a buffer of that size or more is not refused with 7. What each call gives is at most so
 -- long, and no call comes to 7 before it looks at its buffer. Assumes nothing.
-use Prim.Native.Nat.{ℕ, zero, suc, _-_, _*_, _<_, _≤_}
+use Prim.Native.Nat.{ℕ, zero, suc, _≤_}
 use mathlib.Core.Path.{_≡_, refl, sym, ap, subst, _∙_}
 use mathlib.Core.Bool.{Bool, true, false, cond}
-use mathlib.Core.List.{List, [], _∷_, map}
+use mathlib.Core.List.{List, [], _∷_}
 use mathlib.Core.Option.{Option}
 use native.Mathlib.Omega.{arith}
 use borrow.Author.Tests.{ltb-false, leb-true}
@@ -15,7 +15,6 @@ use Rattle.answers.specs.declared.Refusal.{Refusal}
 use Rattle.answers.specs.declared.Answer.{Answer}
 use Rattle.answers.specs.declared.Verdict.{Verdict}
 use Rattle.answers.specs.Given.{Given, gives, refuses, unlessRefused, GivenUnless, Delivers, Answers}
-use Rattle.operations.specs.Operation.{byteOf}
 use Rattle.rule.specs.Pairs.{every}
 use Rattle.models.specs.declared.model.Reading.{Reading}
 use Rattle.models.specs.Reading.{tableIn, reading}
@@ -48,7 +47,6 @@ use Rattle.listing.specs.Listed as listed
 use Rattle.listing.specs.Listed.{MachineListed, ModelsListed, PartsListed, ShapeListed, Listed}
 use Rattle.listing.proofs.Theorems.{longest-listing}
 use Rattle.demands.specs.Opened.{up, on, OpeningRefused, no-way, upstream-refused, target-refused}
-use Rattle.demands.specs.Images.{ImageOf}
 use Rattle.demands.proofs.Accepted.{gives-ran}
 use Rattle.demands.proofs.Delivered.{never-too-small}
 use Rattle.demands.proofs.Direct.{DirectIs, puts-out, at-4, at-5, at-6, direct-is, is-direct}

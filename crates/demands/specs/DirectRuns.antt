@@ -73,16 +73,18 @@ pub record Exceeds (m : Models) (stream : List ℕ) (room : ℕ) : Type 0 where
   pub accepted : run (m .way) (up m) (on m) input ≡ done output
   pub exceeds : room < length output
 
--- A call is refused, where the buffer has this room: by its opening, by the stream's length, by the earliest byte at fault, or last by the room.
+-- A stream is refused: by its length, or by the earliest byte at fault.
+pub data StreamRefused (m : Models) (stream : List ℕ) : Refusal → Type 0 where
+  over-limit : 4096 < length stream → StreamRefused m stream Refusal.OverLimit
+  no-operation : (place : ℕ) → length stream ≤ 4096 → StopsAt m stream place (NoOperation m) → StreamRefused m stream (Refusal.NoOperation place)
+  no-such-fence : (place : ℕ) → length stream ≤ 4096 → StopsAt m stream place (NoSuchFence m) → StreamRefused m stream (Refusal.NoSuchFence place)
+  no-fence-will-do : (place : ℕ) → length stream ≤ 4096 → StopsAt m stream place (NoFenceWillDo m)
+      → StreamRefused m stream (Refusal.NoFenceWillDo place)
+
+-- A call is refused, where the buffer has this room: by its opening, by the stream, or last by the room.
 pub data RunRefused (number : ℕ) (upstream target stream : List ℕ) (room : ℕ) : Refusal → Type 0 where
   opening : {why : Refusal} → OpeningRefused number upstream target why → RunRefused number upstream target stream room why
-  over-limit : {m : Models} → Opened number upstream target m → 4096 < length stream
-      → RunRefused number upstream target stream room Refusal.OverLimit
-  no-operation : {m : Models} (place : ℕ) → Opened number upstream target m → length stream ≤ 4096
-      → StopsAt m stream place (NoOperation m) → RunRefused number upstream target stream room (Refusal.NoOperation place)
-  no-such-fence : {m : Models} (place : ℕ) → Opened number upstream target m → length stream ≤ 4096
-      → StopsAt m stream place (NoSuchFence m) → RunRefused number upstream target stream room (Refusal.NoSuchFence place)
-  no-fence-will-do : {m : Models} (place : ℕ) → Opened number upstream target m → length stream ≤ 4096
-      → StopsAt m stream place (NoFenceWillDo m) → RunRefused number upstream target stream room (Refusal.NoFenceWillDo place)
+  at-stream : {m : Models} {why : Refusal} → Opened number upstream target m → StreamRefused m stream why
+      → RunRefused number upstream target stream room why
   too-small : {m : Models} → Opened number upstream target m → length stream ≤ 4096
       → Exceeds m stream room → RunRefused number upstream target stream room Refusal.BufferTooSmall

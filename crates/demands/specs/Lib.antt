@@ -6,3 +6,4 @@ pub mod Generated
 pub mod Listings
 pub mod Border
 pub mod ImageCalls
+pub mod ModelCalls
