@@ -58,7 +58,7 @@ extern "C" {
 #define SHIM_TEXT_OUT 739        /* shim_builtin, shim_model */
 #define SHIM_RUN_OUT 8191        /* shim_run: nothing stands before the first access */
 #define SHIM_IMAGE_RUN_OUT 8192  /* shim_image_run: a state may put a fence there */
-#define SHIM_LIST_OUT 69461      /* shim_list */
+#define SHIM_LIST_OUT 67261      /* shim_list */
 /* shim_generate and shim_image_read: SHIM_IMAGE_LIMIT */
 
 /*

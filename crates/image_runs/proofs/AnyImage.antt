@@ -1,9 +1,9 @@
 -- A run over any image that is accepted, handmade too: no byte of its entries is barred, so each next state is a state, and what a fenced access
 -- puts out before it is a fence byte. Assumes nothing.
 use Prim.Native.Nat.{ℕ, suc, _+_, _*_, _<_, _≤_}
-use mathlib.Core.Path.{_≡_, refl, sym, ap, ap₂, subst, _∙_}
+use mathlib.Core.Path.{_≡_, refl, ap, ap₂, subst}
 use mathlib.Core.Logic.{_⊎_, inl, inr}
-use mathlib.Core.List.{List, [], _∷_, _++_}
+use mathlib.Core.List.{List, [], _∷_}
 use native.Mathlib.Decide.{ℕ-discrete, decLt}
 use native.Mathlib.Omega.{arith}
 use borrow.Author.Tests.{lt-ltb, le-ltb, eq-eqb, ne-eqb}
@@ -21,7 +21,6 @@ use Rattle.layout.specs.Layout.{position}
 use Rattle.layout.specs.Barred.{statesOf, upstreamFencesOf, targetFencesOf, verdictOf}
 use Rattle.layout.specs.inner.Faultless.{Faultless}
 use Rattle.layout.proofs.Faultless.{accepted-faultless, few-targets, entry-fence, entry-next, entry-onward}
-use Rattle.image_runs.specs.declared.Move.{Move}
 use Rattle.image_runs.specs.declared.Step.{Step}
 use Rattle.image_runs.specs.Run.{accessStep, stepAs, stepAt, puts, inserts, leads, Walked, ended, stopped, walkedOn, resumed, walked}
 use Rattle.image_runs.proofs.Runs.{puts-few}

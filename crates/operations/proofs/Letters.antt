@@ -1,7 +1,7 @@
 -- The letter of a kind and the kind of a letter are inverse, case by case; so are the letter of an operation and the operation of a letter. Assumes
 -- nothing.
 use Prim.Native.Nat.{ℕ, zero, suc, _+_, _-_, _<_}
-use mathlib.Core.Path.{_≡_, refl, ap, _∙_}
+use mathlib.Core.Path.{_≡_, refl}
 use native.Mathlib.Omega.{arith}
 use borrow.Author.Tests.{lt-ltb, le-ltb}
 use Rattle.operations.specs.declared.Kind.{Kind}
