@@ -27,9 +27,9 @@ use Rattle.runs.specs.Call.{outcome}
 use Rattle.runs.proofs.Counting.{fence-bytes-are-fences}
 use Rattle.demands.specs.Streams.{Reads, KeptByOne, Right}
 use Rattle.demands.specs.Opened.{Opened, up, on}
-use Rattle.demands.specs.DirectRuns.{RunDone}
+use Rattle.demands.specs.DirectRuns.{RunDone, Accepts}
 use Rattle.demands.proofs.Delivered.{Gave, done-gave}
-use Rattle.demands.proofs.Direct.{Accepts, puts-out, at-4, at-5, at-6}
+use Rattle.demands.proofs.Direct.{puts-out, at-4, at-5, at-6}
 use Rattle.demands.proofs.Opening.{told-opens}
 use Rattle.demands.proofs.Reading.{reads-on}
 use Rattle.demands.proofs.Running.{RunIs, unopened, over, runs, run-is}

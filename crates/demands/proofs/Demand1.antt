@@ -26,6 +26,9 @@ use Rattle.comparison.specs.declared.Compared.{Compared}
 use Rattle.comparison.specs.Comparison.{comparing}
 use Rattle.host.specs.Border.{comparedAs, relationOf, TellsRelation}
 use Rattle.generation.specs.Generating.{ImageGiven}
+use Rattle.listing.specs.Listed.{Listed}
+use Rattle.demands.specs.Listings.{ListRefused}
+use Rattle.demands.proofs.Lists.{withheld-listing, listing-withheld}
 use Rattle.demands.specs.ModelCalls.{ModelRefused, BuiltInRefused, ComparedAs}
 use Rattle.demands.proofs.Models.{model-told, told-model, built-in-told, told-built-in, compared-told}
 use Rattle.demands.specs.ImageCalls.{ImageRefused, ReadRefused, ImageRunRefused}
@@ -74,15 +77,7 @@ module _ {number : ℕ} {upstream target stream out : List ℕ} {r : Answer} {af
       by-run (runs o k (puts-out a)) (refused e) = differ (cc)
       by-run (runs o k (puts-out {output = output} a)) (exceeds {bytes = bytes} e l) =
           let same : map byteOf output ≡ bytes = cc in
-          too-small o k
-          (record {
-            input = a .input;
-            input-read = a .input-read;
-            input-own = a .input-own;
-            output = output;
-            accepted = a .accepted;
-            exceeds = omega (arith, l, ap length same, length-map output byteOf);
-          })
+          too-small o k (record { output = output; accepts = a; exceeds = omega (arith, l, ap length same, length-map output byteOf) })
 
       given-told : {w : Refusal} → Withheld (outcome number upstream target stream) (length out) w
           → RunRefused number upstream target stream (length out) w
@@ -96,8 +91,7 @@ module _ {number : ℕ} {upstream target stream out : List ℕ} {r : Answer} {af
       told-given (at-stream o (no-such-fence place l s)) = refused (is-run number upstream target stream (runs o l (at-5 place s)))
       told-given (at-stream o (no-fence-will-do place l s)) = refused (is-run number upstream target stream (runs o l (at-6 place s)))
       told-given (too-small o l x) =
-          exceeds (is-run number upstream target stream
-          (runs o l (puts-out (record { input = x .input; input-read = x .input-read; input-own = x .input-own; accepted = x .accepted }))))
+          exceeds (is-run number upstream target stream (runs o l (puts-out (x .accepts))))
           (omega (arith, x .exceeds, length-map (x .output) byteOf))
 
 -- Generating is refused exactly when 01 says.
@@ -141,6 +135,16 @@ module _ (number : ℕ) (upstream target : List ℕ) {out : List ℕ} {r : Answe
       told-given (situations o h) = refused (as-8 o (given-models o .0 (call .right)) .1 h)
       told-given (states o f h) = refused (as-9 o (given-models o .0 (call .right)) .1 (f, h))
       told-given (generate.too-small o x) = small x (machine-is o (given-models o .0 (call .right)))
+
+-- A listing is refused exactly when 01 says.
+pub list-refused-exactly-when : (input : List ℕ) {out : List ℕ} {r : Answer} {after : List ℕ} → Answers (Listed input) out r after → (why : Refusal)
+    → (r ≡ Answer.Refused why) ↔ ListRefused input (length out) why
+list-refused-exactly-when input {out} {after = after} call why = (
+  λ e.
+      withheld-listing (call .right)
+      (refused-withheld (subst (λ (x : Answer). Delivers (call .given) out x after) e (call .delivered)) .1),
+  λ h. withheld-refused (call .delivered) (listing-withheld (call .right) h),
+)
 
 -- An image is refused exactly when 01 says, and so are the calls that read one and write it back, and run over one.
 pub image-refused-exactly-when : (image : List ℕ) (why : Refusal) → (verdictOf image ≡ Verdict.Refused why) ↔ ImageRefused image why

@@ -15,20 +15,12 @@ use Rattle.rule.specs.Rule.{Ran, done, refused, run}
 use Rattle.rule.proofs.Theorems.{refused-exactly-when}
 use Rattle.shims.specs.declared.Models.{Models}
 use Rattle.runs.specs.Bytes.{Judged, operationsFrom, operations, faultFrom, fault, puts, outcomeOf, direct}
-use Rattle.demands.specs.Streams.{Reads, Own}
 use Rattle.demands.specs.Opened.{up, on}
-use Rattle.demands.specs.DirectRuns.{StopsAt, NoOperation, NoSuchFence, NoFenceWillDo}
+use Rattle.demands.specs.DirectRuns.{StopsAt, NoOperation, NoSuchFence, NoFenceWillDo, Accepts}
 use Rattle.demands.proofs.Reading as reading
 use Rattle.runs.proofs.Judging as judging
 use Rattle.runs.proofs.Judging.{AtFault, is-bad, is-good}
 use Rattle.demands.proofs.Reading.{read-then, reads-all, reads-length, faults, stands}
-
--- the rule accepts the whole stream
-pub record Accepts (m : Models) (stream : List ℕ) (output : Stream) : Type 0 where
-  pub input : Stream
-  pub input-read : Reads stream input
-  pub input-own : Own (up m) input
-  pub accepted : run (m .way) (up m) (on m) input ≡ done output
 
 pub data DirectIs (m : Models) (stream : List ℕ) : Given → Type 0 where
   puts-out : {output : Stream} → Accepts m stream output → DirectIs m stream (puts (map byteOf output))

@@ -10,6 +10,7 @@ pub mod Models
 pub mod Images
 pub mod Generating
 pub mod Listing
+pub mod Lists
 pub mod Demand1
 pub mod Demand2
 pub mod Demand3

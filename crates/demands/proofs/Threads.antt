@@ -42,11 +42,11 @@ use Rattle.image_runs.specs.Run.{stepAs, stepAt, Walked, ended, stopped, walked
 use Rattle.image_runs.proofs.Theorems as walks
 use Rattle.demands.specs.Streams.{Reads, Own}
 use Rattle.demands.specs.Opened.{Opened, up, on}
-use Rattle.demands.specs.DirectRuns.{StopsAt, NoOperation, NoSuchFence, NoFenceWillDo}
+use Rattle.demands.specs.DirectRuns.{StopsAt, NoFenceWillDo, Accepts}
 use Rattle.demands.specs.Images.{endingIn, entryAnswer, ImageOf, stateAfter, SameFuture, Thread, fresh, block, ThreadDone, AsOneStream, goes-on, stops}
 use Rattle.demands.proofs.Accepted.{reads-written, is-right}
 use Rattle.demands.proofs.Delivered.{done-gave}
-use Rattle.demands.proofs.Direct.{Accepts, DirectIs, puts-out, at-4, at-5, at-6, direct-is}
+use Rattle.demands.proofs.Direct.{DirectIs, puts-out, at-4, at-5, at-6, direct-is}
 use Rattle.demands.proofs.Reading.{Below, reads-length, written-bytes}
 use Rattle.demands.proofs.Running.{over, runs, is-run}
 use Rattle.demands.proofs.Walking.{walkOf, told, walks-as-told}

@@ -64,13 +64,17 @@ NoFenceWillDo m b input output =
     (k : Kind) × (byteIs b ≡ Byte.Is (Operation.Access k)) × (settled (up m) (on m) input output k ≡ false)
     × NoneWillDo (m .way) (λ (g : ℕ). settled (up m) (on m) input (output ++ fence g) k) (length (on m .fences))
 
--- what the accepted run of a whole stream writes exceeds the room
-pub record Exceeds (m : Models) (stream : List ℕ) (room : ℕ) : Type 0 where
+-- the rule accepts the whole stream
+pub record Accepts (m : Models) (stream : List ℕ) (output : Stream) : Type 0 where
   pub input : Stream
   pub input-read : Reads stream input
   pub input-own : Own (up m) input
-  pub output : Stream
   pub accepted : run (m .way) (up m) (on m) input ≡ done output
+
+-- what the accepted run of a whole stream writes exceeds the room
+pub record Exceeds (m : Models) (stream : List ℕ) (room : ℕ) : Type 0 where
+  pub output : Stream
+  pub accepts : Accepts m stream output
   pub exceeds : room < length output
 
 -- A stream is refused: by its length, or by the earliest byte at fault.
