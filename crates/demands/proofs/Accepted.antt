@@ -44,7 +44,8 @@ few-upstreams {upstream = upstream} {m = m} o = few-fences (m .upstream) (few-re
 -- a stream whose fences have bytes is read from its bytes
 pub reads-written : (n : ℕ) → n ≤ 16 → (s : Stream) → everyFence (λ (f : ℕ). f < n) s → Reads (map byteOf s) s
 reads-written n few [] h = refl
-reads-written n few (Operation.Access k ∷ s) h = reads-on (byteOf (Operation.Access k)) (map byteOf s) (Operation.Access k) s (access-read k) (reads-written n few s h)
+reads-written n few (Operation.Access k ∷ s) h =
+    reads-on (byteOf (Operation.Access k)) (map byteOf s) (Operation.Access k) s (access-read k) (reads-written n few s h)
 reads-written n few (Operation.Fence f ∷ s) h =
     reads-on (byteOf (Operation.Fence f)) (map byteOf s) (Operation.Fence f) s (fence-read f (omega (arith, h .0))) (reads-written n few s (h .1))
 

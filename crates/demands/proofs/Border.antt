@@ -1,5 +1,5 @@
--- What the C host holds: a returned number, five numbers and a buffer. From them it knows the answer of the call below and so all that the demands say of
--- it: an answer is known by its numbers, since no refusal has the number 0. Assumes nothing.
+-- What the C host holds: a returned number, five numbers and a buffer. From them it knows the answer of the call below and so all that the demands
+-- say of it: an answer is known by its numbers, since no refusal has the number 0. Assumes nothing.
 use Prim.Native.Nat.{ℕ}
 use mathlib.Core.Path.{_≡_, sym, ap, _∙_}
 use mathlib.Core.List.{List, [], _∷_}

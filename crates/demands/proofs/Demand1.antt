@@ -1,6 +1,6 @@
--- Demand 1: "Every public call takes every text, stream, image, number and buffer, of length nought too, stays within bounds and ends." That is what a
--- proof of a function in Rattle says, and no public function has a `requires`. "Bad input is refused by the number and place that document 01 gives; a
--- refused call writes nothing": here, of the answers and the buffers. Assumes nothing.
+-- Demand 1: "Every public call takes every text, stream, image, number and buffer, of length nought too, stays within bounds and ends." That is
+-- what a proof of a function in Rattle says, and no public function has a `requires`. "Bad input is refused by the number and place that document
+-- 01 gives; a refused call writes nothing": here, of the answers and the buffers. Assumes nothing.
 use Prim.Native.Nat.{ℕ}
 use mathlib.Core.Path.{_≡_, refl, ap, subst}
 use mathlib.Core.Logic.{_↔_}
@@ -42,7 +42,8 @@ use Rattle.demands.proofs.Generating.{MachineIs, crowded, overfull, mad
 use Rattle.demands.proofs.Generating.{given-models, as-8, as-9, machine-is}
 use Rattle.demands.proofs.Running.{RunIs, unopened, over, runs, run-is, is-run}
 
--- A refused call tells its number and place and zeros, and leaves every byte of the buffer as it was: of every call that writes, whatever it has to give.
+-- A refused call tells its number and place and zeros, and leaves every byte of the buffer as it was: of every call that writes, whatever it has to
+-- give.
 pub refused-writes-nothing : {given : Given} {out after : List ℕ} {why : Refusal} → Delivers given out (Answer.Refused why) after
     → (numbersOf (Answer.Refused why) ≡ numberOf why ∷ placeOf why ∷ 0 ∷ 0 ∷ 0 ∷ []) × (after ≡ out)
 refused-writes-nothing d = (refl, refused-withheld d .0)
@@ -161,12 +162,14 @@ pub image-run-refused-exactly-when : (image : List ℕ) (start : ℕ) (stream : 
     → Delivers (runOver image start stream) out r after → (why : Refusal)
     → (r ≡ Answer.Refused why) ↔ ImageRunRefused image start stream (length out) why
 image-run-refused-exactly-when image start stream {out} {after = after} call why = (
-  λ e. run-told image start stream (length out) (refused-withheld (subst (λ (x : Answer). Delivers (runOver image start stream) out x after) e call) .1),
+  λ e. run-told image start stream (length out)
+      (refused-withheld (subst (λ (x : Answer). Delivers (runOver image start stream) out x after) e call) .1),
   λ h. withheld-refused call (told-run image start stream (length out) h),
 )
 
 -- A model's text that is read and written back, and a built-in model, are refused exactly when 01 says.
-pub model-refused-exactly-when : (text : List ℕ) {out : List ℕ} {r : Answer} {after : List ℕ} → Delivers (backGiven text) out r after → (why : Refusal)
+pub model-refused-exactly-when : (text : List ℕ) {out : List ℕ} {r : Answer} {after : List ℕ} → Delivers (backGiven text) out r after
+    → (why : Refusal)
     → (r ≡ Answer.Refused why) ↔ ModelRefused text (length out) why
 model-refused-exactly-when text {out} {after = after} call why = (
   λ e. model-told text (length out) (refused-withheld (subst (λ (x : Answer). Delivers (backGiven text) out x after) e call) .1),

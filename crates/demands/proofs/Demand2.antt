@@ -1,8 +1,8 @@
--- Demand 2: "Tables and strengths are those of document 002. The output carries the input's accesses in order. Every pair that the upstream model orders is
--- kept at that strength by the target's default or by one fence between the two. A fence stands before an access exactly when a pair ending there would
--- otherwise fall short; which fence, and when none will do, is as 01 says. A generated machine answers like this rule on every stream, with the fewest
--- states, and its image reads and writes back unchanged." Of the calls' answers and the bytes in their buffers; each by what the call gives, and the
--- theorems on that. Assumes nothing.
+-- Demand 2: "Tables and strengths are those of document 002. The output carries the input's accesses in order. Every pair that the upstream model
+-- orders is kept at that strength by the target's default or by one fence between the two. A fence stands before an access exactly when a pair
+-- ending there would otherwise fall short; which fence, and when none will do, is as 01 says. A generated machine answers like this rule on every
+-- stream, with the fewest states, and its image reads and writes back unchanged." Of the calls' answers and the bytes in their buffers; each by
+-- what the call gives, and the theorems on that. Assumes nothing.
 use Prim.Native.Nat.{ℕ, _<_, _≤_}
 use mathlib.Core.Path.{_≡_, sym, ap, subst, _∙_}
 use mathlib.Core.Logic.{_↔_}
@@ -87,8 +87,8 @@ module _ {m : Models} {image : List ℕ} (i : ImageOf m image) where
       let d = threads.thread-done i (block fresh stream call) in
       d .state-is ∙ ap (stateAfter m image) (reads-one stream (d .input) input (d .input-read) reads)
 
-  -- Two accepted streams lead to the same state exactly when every continuation gets the same further output and refusals: of threads, and so of single
-  -- calls.
+  -- Two accepted streams lead to the same state exactly when every continuation gets the same further output and refusals: of threads, and so of
+  -- single calls.
   pub same-state-exactly-when : {s t n n′ : ℕ} {given given′ put put′ : List ℕ} → Thread image s given put n → Thread image t given′ put′ n′
       → (v w out out′ : Stream) → Reads given v → Reads given′ w → run (m .way) (up m) (on m) v ≡ done out → run (m .way) (up m) (on m) w ≡ done out′
       → (s ≡ t) ↔ SameFuture m v out w out′
@@ -100,15 +100,16 @@ module _ {m : Models} {image : List ℕ} (i : ImageOf m image) where
       threads.same-state i v w out out′ (c .state-is ∙ ap (stateAfter m image) v-is) (d .state-is ∙ ap (stateAfter m image) w-is)
       (subst (Own (up m)) v-is (c .input-own)) (subst (Own (up m)) w-is (d .input-own)) e f
 
-  -- A run over the image from state 0 gives the direct run's answer and leaves the direct run's bytes, on every stream, refusals too; only the end state,
-  -- which is one of the image's, a direct run does not tell.
-  pub image-run-is-direct : {number : ℕ} {upstream target : List ℕ} → Opened number upstream target m → (stream : List ℕ) {out : List ℕ} {r r′ : Answer}
+  -- A run over the image from state 0 gives the direct run's answer and leaves the direct run's bytes, on every stream, refusals too; only the end
+  -- state, which is one of the image's, a direct run does not tell.
+  pub image-run-is-direct : {number : ℕ} {upstream target : List ℕ} → Opened number upstream target m
+      → (stream : List ℕ) {out : List ℕ} {r r′ : Answer}
       {after after′ : List ℕ} → Delivers (runOver image 0 stream) out r after → Delivers (outcome number upstream target stream) out r′ after′
       → (state : ℕ) × (state < at image 4) × (r ≡ endingIn state r′) × (after ≡ after′)
   image-run-is-direct = threads.image-run-is-direct i
 
-  -- A thread passed through the image block by block, for as long as it likes, is one run of the rule over all of it: the same accesses, every pair kept
-  -- across blocks too, fences exactly where they are needed, their count the sum of what was told.
+  -- A thread passed through the image block by block, for as long as it likes, is one run of the rule over all of it: the same accesses, every pair
+  -- kept across blocks too, fences exactly where they are needed, their count the sum of what was told.
   pub thread-done : {state inserted : ℕ} {given put : List ℕ} → Thread image state given put inserted → ThreadDone m image state given put inserted
   thread-done = threads.thread-done i
 
@@ -128,7 +129,8 @@ any-image-run image bytes start stream call =
     )
 
 -- An image that is accepted reads and writes back unchanged, with its header told.
-pub image-written-back : (image : List ℕ) → verdictOf image ≡ Verdict.Accepted → {out header after : List ℕ} {r : Answer} → Rewrites image out header r after
+pub image-written-back : (image : List ℕ) → verdictOf image ≡ Verdict.Accepted → {out header after : List ℕ} {r : Answer}
+    → Rewrites image out header r after
     → length image ≤ length out
     → (r ≡ Answer.Done (length image) 0 0) × (take (length image) after ≡ image)
     × (header ≡ at image 3 ∷ at image 4 ∷ at image 5 ∷ at image 6 ∷ [])

@@ -1,6 +1,6 @@
--- Demand 3: "In the full way .. no one can do with fewer: for any two models and any stream accepted from the fresh shim, every other placing of the
--- target's fences among the same accesses, of any kinds and any number in a gap, that keeps all those pairs has at least as many fences." Of the number
--- that the call returns: it counts the fences of the rule's run, which has the fewest. Assumes nothing.
+-- Demand 3: "In the full way .. no one can do with fewer: for any two models and any stream accepted from the fresh shim, every other placing of
+-- the target's fences among the same accesses, of any kinds and any number in a gap, that keeps all those pairs has at least as many fences." Of
+-- the number that the call returns: it counts the fences of the rule's run, which has the fewest. Assumes nothing.
 use Prim.Native.Nat.{ℕ, _≤_}
 use mathlib.Core.Path.{_≡_, sym, subst}
 use mathlib.Core.List.{List}

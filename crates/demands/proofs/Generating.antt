@@ -1,5 +1,5 @@
--- What a call gives that generates an image, in 01's words: its opening's refusal, 8 or 9, or the image of the minimal machine. By the stages of the call
--- and what the machine's contract says. Assumes nothing.
+-- What a call gives that generates an image, in 01's words: its opening's refusal, 8 or 9, or the image of the minimal machine. By the stages of
+-- the call and what the machine's contract says. Assumes nothing.
 use Prim.Native.Nat.{ℕ, _+_, _-_, _*_, _/_, _%_, _<_}
 use mathlib.Core.Path.{_≡_, refl, sym, ap, subst, subst₂, _∙_}
 use mathlib.Core.Bool.{false}
@@ -76,7 +76,8 @@ module _ {number : ℕ} {upstream target image : List ℕ} (call : Imaged number
       look (no p) =
           let e : accessLetters + (a - accessLetters) ≡ a = omega arith in
           let own : w / 256 ≡ 255 =
-          subst (λ (b : ℕ). word (call .rows) s b / 256 ≡ 255) e (laid-out call .fences s (a - accessLetters) l (omega (arith, making call .its-ups)) .0) in
+          subst (λ (b : ℕ). word (call .rows) s b / 256 ≡ 255) e
+          (laid-out call .fences s (a - accessLetters) l (omega (arith, making call .its-ups)) .0) in
           let next : at image (position 1 s (2 * accessLetters + (a - accessLetters))) ≡ w % 256 =
           ap (λ (i : List ℕ). at i (position 1 s (2 * accessLetters + (a - accessLetters)))) (call .image-is)
           ∙ onward-image _ _ (laid-out call) s (a - accessLetters) l (omega (arith, ups-few call))
@@ -101,7 +102,8 @@ module _ {number : ℕ} {upstream target image : List ℕ} (call : Imaged number
         upstream-name = ap (λ (h : Header). h .upstream) (image-header call);
         target-name = ap (λ (h : Header). h .target) (image-header call);
         size = image-length call ∙ ap (λ (n : ℕ). 512 * blocksFor 1 n) (sym states-are);
-        described = subst (λ (n : ℕ). Described (shim (m .way) (up m) (on m)) (Same (shim (m .way) (up m) (on m))) n (entryAnswer image)) (sym states-are)
+        described = subst (λ (n : ℕ). Described (shim (m .way) (up m) (on m)) (Same (shim (m .way) (up m) (on m))) n (entryAnswer image))
+            (sym states-are)
             (described-as (making call .states) entry-as-row);
       }
 
@@ -145,7 +147,8 @@ module _ {number : ℕ} {upstream target : List ℕ} {m : Models} (o : Opened nu
     pub machine-is : MachineIs m g
     machine-is = by (given .outcome) (given .made) (given .gives-it)
       where
-        refusal : (why : Refusal) → Unmade (shimOf (shimBetween m) (named (up m .fences)) (named (on m .fences))) blank why → g ≡ refuses why → MachineIs m g
+        refusal : (why : Refusal) → Unmade (shimOf (shimBetween m) (named (up m .fences)) (named (on m .fences))) blank why
+            → g ≡ refuses why → MachineIs m g
         refusal why (unmade.crowded h) e = subst (MachineIs m) (sym e) (crowded (as-8 .0 e))
         refusal why (unmade.overfull f h) e = subst (MachineIs m) (sym e) (overfull (as-9 .0 e .0) (as-9 .0 e .1))
         refusal why (unmade.roomless f k d s) e = absurd (never-7 m g given e)

@@ -1,5 +1,5 @@
--- What is given by the calls that take an image, in 01's words: the verdict on an image goes by the lowest wrong block and the lowest barred byte, and the
--- later stages by what they test. Assumes nothing.
+-- What is given by the calls that take an image, in 01's words: the verdict on an image goes by the lowest wrong block and the lowest barred byte,
+-- and the later stages by what they test. Assumes nothing.
 use Prim.Native.Nat.{ℕ, _<_, _≤_}
 use mathlib.Core.Path.{_≡_, refl, ap, ap₂, subst, _∙_}
 use mathlib.Core.Bool.{Bool, true, false, cond}
@@ -47,7 +47,8 @@ module _ (image : List ℕ) where
       found l Found.Nowhere Found.Nowhere p q e = differ (cc)
 
       by : (b : Bool) → ltb limit (length image) ≡ b
-          → cond b (Verdict.Refused Refusal.OverLimit) (stages (lowestWrong image) (lowestBarred image)) ≡ Verdict.Refused why → ImageRefused image why
+          → cond b (Verdict.Refused Refusal.OverLimit) (stages (lowestWrong image) (lowestBarred image)) ≡ Verdict.Refused why
+          → ImageRefused image why
       by true p e = as-is (calls.over-limit (omega (arith, ltb-true limit (length image) p))) e
       by false p e = found (omega (arith, ltb-false limit (length image) p)) (lowestWrong image) (lowestBarred image) refl refl e
 
@@ -72,7 +73,8 @@ module _ (image : List ℕ) (room : ℕ) where
   unfolding writtenBack
   back-told h = by (verdictOf image) refl h
     where
-      by : (v : Verdict) → verdictOf image ≡ v → {why : Refusal} → Withheld (unlessRefused v (gives image 0 0)) room why → calls.ReadRefused image room why
+      by : (v : Verdict) → verdictOf image ≡ v → {why : Refusal} → Withheld (unlessRefused v (gives image 0 0)) room why
+          → calls.ReadRefused image room why
       by (Verdict.Refused is) e {why} (refused h) =
           let same : is ≡ why = cc in
           calls.image-refused (verdict-told image (e ∙ ap Verdict.Refused same))

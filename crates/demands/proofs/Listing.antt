@@ -1,5 +1,5 @@
--- What a call has done that gives a listing: it has gone through its stages, and what it tells is what its own theorem says (`accepted-input` in listing),
--- with the texts' models and the run in 01's words. Assumes nothing.
+-- What a call has done that gives a listing: it has gone through its stages, and what it tells is what its own theorem says (`accepted-input` in
+-- listing), with the texts' models and the run in 01's words. Assumes nothing.
 use Prim.Native.Nat.{ℕ}
 use mathlib.Core.Path.{sym, ap, subst, _∙_}
 use mathlib.Core.List.{List}

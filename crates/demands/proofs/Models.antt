@@ -1,5 +1,5 @@
--- What is given by the calls that take a model's text or a built-in's number, in 01's words: what is read of a text is what 01 tells of it, and a number is
--- in range or not. Assumes nothing.
+-- What is given by the calls that take a model's text or a built-in's number, in 01's words: what is read of a text is what 01 tells of it, and a
+-- number is in range or not. Assumes nothing.
 use Prim.Native.Nat.{ℕ, _<_, _≤_}
 use mathlib.Core.Path.{_≡_, refl, sym, ap, subst}
 use mathlib.Core.List.{List}

@@ -83,7 +83,8 @@ opening-told number upstream target {why} e = by-way (wayOf number) refl e
   where
     by-target : (way : Way) → number ≡ wayNumber way → Told upstream (accepting (reading upstream .model))
         → (v : Verdict) → reading target .verdict ≡ v
-        → onVerdict v (shims.opening (record { way = way; upstream = reading upstream .model; target = reading target .model })) .verdict ≡ Verdict.Refused why
+        → onVerdict v (shims.opening (record { way = way; upstream = reading upstream .model; target = reading target .model }))
+        .verdict ≡ Verdict.Refused why
         → OpeningRefused number upstream target why
     by-target way w u Verdict.Accepted t z = differ (cc)
     by-target way w u (Verdict.Refused is) t z =

@@ -1,5 +1,5 @@
--- What the call of a direct run gives, in 01's words: its opening's refusal, the refusal of a stream over its limit, or what the direct run of the two
--- models gives. By the stages of the call. Assumes nothing.
+-- What the call of a direct run gives, in 01's words: its opening's refusal, the refusal of a stream over its limit, or what the direct run of the
+-- two models gives. By the stages of the call. Assumes nothing.
 use Prim.Native.Nat.{ℕ, _<_, _≤_}
 use mathlib.Core.Path.{_≡_, refl, ap, _∙_}
 use mathlib.Core.Bool.{Bool, true, false, cond}

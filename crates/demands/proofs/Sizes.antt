@@ -1,5 +1,5 @@
--- The sizes that include/shim.h calls never too small: a call with a buffer of that size or more is not refused with 7. What each call gives is at most so
--- long, and no call comes to 7 before it looks at its buffer. Assumes nothing.
+-- The sizes that include/shim.h calls never too small: a call with a buffer of that size or more is not refused with 7. What each call gives is at
+-- most so long, and no call comes to 7 before it looks at its buffer. Assumes nothing.
 use Prim.Native.Nat.{ℕ, zero, suc, _≤_}
 use mathlib.Core.Path.{_≡_, refl, sym, ap, subst, _∙_}
 use mathlib.Core.Bool.{Bool, true, false, cond}
@@ -174,7 +174,8 @@ image-out number upstream target call =
 pub image-back-out : (image : List ℕ) {out header : List ℕ} {r : Answer} {after : List ℕ} → Rewrites image out header r after → 7168 ≤ length out
     → r ≡ Answer.Refused Refusal.BufferTooSmall → ⊥
 unfolding writtenBack
-image-back-out image call = never-too-small (call .delivered) 7168 (λ e. none (verdictOf image) refl e) (λ bytes f s e. short (verdictOf image) refl e)
+image-back-out image call =
+    never-too-small (call .delivered) 7168 (λ e. none (verdictOf image) refl e) (λ bytes f s e. short (verdictOf image) refl e)
   where
     none : (v : Verdict) → verdictOf image ≡ v → unlessRefused v (gives image 0 0) ≡ refuses Refusal.BufferTooSmall → ⊥
     none (Verdict.Refused why) a e =
@@ -182,7 +183,8 @@ image-back-out image call = never-too-small (call .delivered) 7168 (λ e. none (
         verdict-not-7 image (a ∙ ap Verdict.Refused seven)
     none Verdict.Accepted a e = differ (cc)
 
-    short : (v : Verdict) → verdictOf image ≡ v → {bytes : List ℕ} {f s : ℕ} → unlessRefused v (gives image 0 0) ≡ gives bytes f s → length bytes ≤ 7168
+    short : (v : Verdict) → verdictOf image ≡ v → {bytes : List ℕ} {f s : ℕ} → unlessRefused v (gives image 0 0) ≡ gives bytes f s
+        → length bytes ≤ 7168
     short (Verdict.Refused why) a e = differ (cc)
     short Verdict.Accepted a {bytes = bytes} e =
         let same : image ≡ bytes = cc in
@@ -242,7 +244,8 @@ listed-not-7 (listed.within l h) e = shape-not-7 h e
 -- SHIM_LIST_OUT: 67,261 for a listing.
 pub list-out : (input : List ℕ) {out : List ℕ} {r : Answer} {after : List ℕ} → Answers (Listed input) out r after → 67261 ≤ length out
     → r ≡ Answer.Refused Refusal.BufferTooSmall → ⊥
-list-out input call = never-too-small (call .delivered) 67261 (λ e. listed-not-7 (call .right) e) (λ bytes f s e. longest-listing (subst (Listed input) e (call .right)))
+list-out input call = never-too-small (call .delivered) 67261 (λ e. listed-not-7 (call .right) e)
+    (λ bytes f s e. longest-listing (subst (Listed input) e (call .right)))
 
 -- SHIM_TEXT_OUT: 739 for a model's text that is read and written back,
 pub text-out : (text : List ℕ) {out : List ℕ} {r : Answer} {after : List ℕ} → Delivers (backGiven text) out r after → 739 ≤ length out

@@ -1,5 +1,5 @@
--- Runs over the image of a machine that describes the rule: the walk is the machine's run, which is the rule's, so it is the direct run, of any length
--- and in as many blocks as there are. Assumes nothing.
+-- Runs over the image of a machine that describes the rule: the walk is the machine's run, which is the rule's, so it is the direct run, of any
+-- length and in as many blocks as there are. Assumes nothing.
 use Prim.Native.Nat.{ℕ, _+_, _<_, _≤_}
 use mathlib.Core.Path.{_≡_, refl, sym, ap, ap₂, subst, subst₂, _∙_}
 use mathlib.Core.Bool.{Bool, true, false, cond}
@@ -43,7 +43,8 @@ use Rattle.image_runs.proofs.Theorems as walks
 use Rattle.demands.specs.Streams.{Reads, Own}
 use Rattle.demands.specs.Opened.{Opened, up, on}
 use Rattle.demands.specs.DirectRuns.{StopsAt, NoFenceWillDo, Accepts}
-use Rattle.demands.specs.Images.{endingIn, entryAnswer, ImageOf, stateAfter, SameFuture, Thread, fresh, block, ThreadDone, AsOneStream, goes-on, stops}
+use Rattle.demands.specs.Images.{endingIn, entryAnswer, ImageOf, stateAfter, SameFuture, Thread, fresh, block}
+use Rattle.demands.specs.Images.{ThreadDone, AsOneStream, goes-on, stops}
 use Rattle.demands.proofs.Accepted.{reads-written, is-right}
 use Rattle.demands.proofs.Delivered.{done-gave}
 use Rattle.demands.proofs.Direct.{DirectIs, puts-out, at-4, at-5, at-6, direct-is}
@@ -350,9 +351,11 @@ module _ {m : Models} {image : List ℕ} (i : ImageOf m image) where
       → ran v ≡ done out → ran w ≡ done out′ → (s ≡ t) ↔ SameFuture m v out w out′
   same-state {s} {t} v w out out′ p q g h e f =
       let n = length (up m .fences) in
-      let exactly = subst₂ (λ (a b : Stream). (stateAfter m image v ≡ stateAfter m image w) ↔ SameState (m .way) (up m) (on m) a out b out′) (operations-in v)
+      let exactly = subst₂ (λ (a b : Stream). (stateAfter m image v ≡ stateAfter m image w) ↔ SameState (m .way) (up m) (on m) a out b out′)
+      (operations-in v)
       (operations-in w)
-      (same-state-exactly-when (m .way) (up m) (on m) image-few (i .described) (map letterIn v) (map letterIn w) (letters-own n v g) (letters-own n w h)
+      (same-state-exactly-when (m .way) (up m) (on m) image-few (i .described) (map letterIn v) (map letterIn w) (letters-own n v g)
+      (letters-own n w h)
       out out′ (ap ran (operations-in v) ∙ e) (ap ran (operations-in w) ∙ f)) in (
         λ same x own.
             subst (λ (y : Stream). onward (m .way) (up m) (on m) v out y ≡ onward (m .way) (up m) (on m) w out′ y) (operations-in x)
@@ -364,7 +367,8 @@ module _ {m : Models} {image : List ℕ} (i : ImageOf m image) where
   some-state = thread-done fresh .state-below
 
   -- A run over the image from state 0 is the direct run, but for the end state.
-  pub image-run-is-direct : {number : ℕ} {upstream target : List ℕ} → Opened number upstream target m → (stream : List ℕ) {out : List ℕ} {r r′ : Answer}
+  pub image-run-is-direct : {number : ℕ} {upstream target : List ℕ} → Opened number upstream target m
+      → (stream : List ℕ) {out : List ℕ} {r r′ : Answer}
       {after after′ : List ℕ} → Delivers (runOver image 0 stream) out r after → Delivers (outcome number upstream target stream) out r′ after′
       → (state : ℕ) × (state < statesOf image) × (r ≡ endingIn state r′) × (after ≡ after′)
   image-run-is-direct {number} {upstream} {target} o stream {out} {r} {r′} {after} {after′} a b = by (decLe (length stream) 4096)

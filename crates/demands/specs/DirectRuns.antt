@@ -1,6 +1,6 @@
--- The direct run as its caller sees it: what an accepted call has done, by its numbers and the buffer after it, and when a call is refused. Document 01:
--- "4: a byte is no operation", "5: the upstream model has no such fence", "6: no fence will do for the way", each at its index; "Order: way ..; upstream
--- text (1, 2, 3); target text; ..; stream length; the earliest of 4, 5, 6 in the stream; ..; 7 last."
+-- The direct run as its caller sees it: what an accepted call has done, by its numbers and the buffer after it, and when a call is refused.
+-- Document 01: "4: a byte is no operation", "5: the upstream model has no such fence", "6: no fence will do for the way", each at its index;
+-- "Order: way ..; upstream text (1, 2, 3); target text; ..; stream length; the earliest of 4, 5, 6 in the stream; ..; 7 last."
 use Prim.Native.Nat.{ℕ, _<_, _≤_}
 use mathlib.Core.Path.{_≡_}
 use mathlib.Core.Bool.{false}

@@ -1,5 +1,5 @@
--- Generating as its caller sees it: what an accepted call has done, and when a call is refused. Document 01: "Order: way ..; upstream text (1, 2, 3); target
--- text; ..; 8; 9; 7 last."
+-- Generating as its caller sees it: what an accepted call has done, and when a call is refused. Document 01: "Order: way ..; upstream text (1, 2,
+-- 3); target text; ..; 8; 9; 7 last."
 use Prim.Native.Nat.{ℕ, _<_, _≤_}
 use mathlib.Core.Path.{_≡_}
 use mathlib.Core.List.{List}

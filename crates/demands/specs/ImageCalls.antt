@@ -1,6 +1,6 @@
--- When the calls that take an image are refused. Document 01: 1, "a text, stream or image is over its limit"; 10, "an image is empty, has a broken last block,
--- or a wrong number or check", at the "lowest such block"; 11, "an image holds a value the layout bars", at the "lowest such byte"; "Order: ..; image (1, 10,
--- 11); start state; stream length; the earliest of 4, 5, 6 in the stream; ..; 7 last."
+-- When the calls that take an image are refused. Document 01: 1, "a text, stream or image is over its limit"; 10, "an image is empty, has a broken
+-- last block, or a wrong number or check", at the "lowest such block"; 11, "an image holds a value the layout bars", at the "lowest such byte";
+-- "Order: ..; image (1, 10, 11); start state; stream length; the earliest of 4, 5, 6 in the stream; ..; 7 last."
 use Prim.Native.Nat.{ℕ, _<_, _≤_}
 use mathlib.Core.Path.{_≡_}
 use mathlib.Core.Bool.{true, false}

@@ -1,5 +1,5 @@
--- A machine as the bytes of its image tell it, and a thread that is passed through it block by block. Document 01, "The machine image": "for l, L, s, S
--- a fence byte (a number, FF none, FE refused) with the next state (0 where refused), then sixteen next states for upstream fences".
+-- A machine as the bytes of its image tell it, and a thread that is passed through it block by block. Document 01, "The machine image": "for l, L,
+-- s, S a fence byte (a number, FF none, FE refused) with the next state (0 where refused), then sixteen next states for upstream fences".
 use Prim.Native.Nat.{ℕ, _+_, _-_, _*_, _<_}
 use mathlib.Core.Path.{_≡_}
 use mathlib.Core.Bool.{cond}
@@ -79,8 +79,8 @@ pub record ThreadDone (m : Models) (image : List ℕ) (state : ℕ) (given put :
   pub state-is : state ≡ stateAfter m image input
   pub state-below : state < statesOf image
 
--- The answer to the next block of a thread, where the buffer has this room, is what the one stream gets that all of it is: its further output with an end
--- state, or its refusal, counted from the block's start.
+-- The answer to the next block of a thread, where the buffer has this room, is what the one stream gets that all of it is: its further output with
+-- an end state, or its refusal, counted from the block's start.
 pub data AsOneStream (m : Models) (image given put block : List ℕ) (room : ℕ) : answers.Answer → Type 0 where
   goes-on : (rest : List ℕ) (next : ℕ) → direct (m .way) (up m) (on m) (given ++ block) ≡ puts (put ++ rest) → next < statesOf image
       → AsOneStream m image given put block room (answerWith rest (fenceBytes rest) next room)

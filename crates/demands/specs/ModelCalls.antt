@@ -1,6 +1,6 @@
--- The calls that take a model's text or a built-in's number, as their caller sees them. Document 01: 12, "a .. built-in number is out of range"; "text (1, 2,
--- 3)"; "7 last". "Two models are compared by their ppo: equal, first stronger, second stronger, or neither; stronger means no cell lower and some cell
--- higher."
+-- The calls that take a model's text or a built-in's number, as their caller sees them. Document 01: 12, "a .. built-in number is out of range";
+-- "text (1, 2, 3)"; "7 last". "Two models are compared by their ppo: equal, first stronger, second stronger, or neither; stronger means no cell
+-- lower and some cell higher."
 use Prim.Native.Nat.{ℕ, _<_, _≤_}
 use mathlib.Core.List.{List}
 use lib.ListN.{length}
@@ -26,6 +26,7 @@ pub data BuiltInRefused (number room : ℕ) : Refusal → Type 0 where
 -- what two texts compare as: the first one's refusal, then the second one's, then how their default tables compare
 pub data ComparedAs (first second : List ℕ) : Compared → Type 0 where
   first-refused : {why : Refusal} → Told first (refusing why) → ComparedAs first second (Compared.Refused why)
-  second-refused : {a : Model} {why : Refusal} → Told first (accepting a) → Told second (refusing why) → ComparedAs first second (Compared.Refused why)
+  second-refused : {a : Model} {why : Refusal} → Told first (accepting a) → Told second (refusing why)
+      → ComparedAs first second (Compared.Refused why)
   compares : {a b : Model} {is : Comparison} → Told first (accepting a) → Told second (accepting b) → Compares (a .ppo) (b .ppo) is
       → ComparedAs first second (Compared.Is is)

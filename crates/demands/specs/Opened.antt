@@ -1,5 +1,5 @@
--- What a call opens with, in 01's words: a way's number and two texts, and the two models that they are; or the first refusal among them. "Order: way ..;
--- upstream text (1, 2, 3); target text".
+-- What a call opens with, in 01's words: a way's number and two texts, and the two models that they are; or the first refusal among them. "Order:
+-- way ..; upstream text (1, 2, 3); target text".
 use Prim.Native.Nat.{ℕ}
 use mathlib.Core.Path.{_≡_}
 use mathlib.Core.List.{List}

@@ -1,6 +1,6 @@
--- Bytes as a stream of operations, and what is said of an input and an output. Document 01, "Streams and the rule"; the demands: "The output carries the
--- input's accesses in order. Every pair that the upstream model orders is kept at that strength by the target's default or by one fence between the
--- two. A fence stands before an access exactly when a pair ending there would otherwise fall short".
+-- Bytes as a stream of operations, and what is said of an input and an output. Document 01, "Streams and the rule"; the demands: "The output
+-- carries the input's accesses in order. Every pair that the upstream model orders is kept at that strength by the target's default or by one fence
+-- between the two. A fence stands before an access exactly when a pair ending there would otherwise fall short".
 use Prim.Native.Nat.{ℕ, _<_, _≤_}
 use mathlib.Core.Path.{_≡_}
 use mathlib.Core.Bool.{true}

@@ -108,7 +108,8 @@ module _ {input text : List ℕ} {fences state : ℕ} (call : AcceptedInput inpu
   pub within-limits : Short (puts (call .output))
   within-limits = subst Short (call .ran) (run-short (call .models) (call .parts .stream))
 
-  pub limited : Limited (listingOf (call .models) (call .states) (ruleOf (call .models) .letters) (call .row) (call .output) (fenceBytes (call .output)))
+  pub limited : Limited (listingOf (call .models) (call .states) (ruleOf (call .models) .letters) (call .row) (call .output)
+      (fenceBytes (call .output)))
   limited = record {
     short-upstream =
         omega (arith, unfilled-short (call .models .upstream .name .bytes), short-name (call .parts .upstream) (call .opens .upstream-read));
