@@ -66,6 +66,26 @@ fn shown(bytes: &[u8]) -> String {
     }
 }
 
+/// What the header says of the buffer sizes that are never too small.
+const HEADER: &str = include_str!("../../../include/shim.h");
+
+/// The most that a call may write, by its own line in the header.
+fn most(call: &str) -> u64 {
+    let size = match call {
+        "builtin" | "model" => "SHIM_TEXT_OUT",
+        "run" => "SHIM_RUN_OUT",
+        "image_run" => "SHIM_IMAGE_RUN_OUT",
+        "generate" | "image_read" => "SHIM_IMAGE_LIMIT",
+        "list" => "SHIM_LIST_OUT",
+        _ => return 0,
+    };
+    let defined = |line: &str| {
+        let mut words = line.strip_prefix("#define ")?.split_whitespace();
+        (words.next()? == size).then(|| words.next()?.parse().ok())?
+    };
+    HEADER.lines().find_map(defined).expect("the header has it")
+}
+
 /// Compares, and gives what came back.
 fn held(name: &str, numbers: &[u64], regions: &[&[u8]], got: Back, wanted: Back) -> Back {
     CALLS.fetch_add(1, Ordering::Relaxed);
@@ -81,6 +101,8 @@ fn held(name: &str, numbers: &[u64], regions: &[&[u8]], got: Back, wanted: Back)
         }
         panic!("{told}");
     }
+    let written = got.answer[2];
+    assert!(written <= most(name), "shim_{name} wrote {written} bytes");
     if let Some(record) = RECORD.lock().expect("one thread").as_mut() {
         let entry = entry(name, numbers, regions, &wanted);
         record.write_all(&entry).expect("the record is written");
