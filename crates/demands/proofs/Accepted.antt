@@ -25,7 +25,7 @@ use Rattle.shims.specs.declared.Models.{Models}
 use Rattle.shims.proofs.Fences.{few-read, few-fences}
 use Rattle.runs.specs.Call.{outcome}
 use Rattle.runs.proofs.Counting.{fence-bytes-are-fences}
-use Rattle.demands.specs.Streams.{Reads, KeptByOne, Right}
+use Rattle.demands.specs.Streams.{StreamIn, KeptByOne, Right}
 use Rattle.demands.specs.Opened.{Opened, up, on}
 use Rattle.demands.specs.DirectRuns.{RunDone, Accepts}
 use Rattle.demands.proofs.Delivered.{Gave, done-gave}
@@ -42,7 +42,7 @@ pub few-upstreams : {number : ℕ} {upstream target : List ℕ} {m : Models} →
 few-upstreams {upstream = upstream} {m = m} o = few-fences (m .upstream) (few-read upstream (told-opens o .upstream-read))
 
 -- a stream whose fences have bytes is read from its bytes
-pub reads-written : (n : ℕ) → n ≤ 16 → (s : Stream) → everyFence (λ (f : ℕ). f < n) s → Reads (map byteOf s) s
+pub reads-written : (n : ℕ) → n ≤ 16 → (s : Stream) → everyFence (λ (f : ℕ). f < n) s → StreamIn (map byteOf s) s
 reads-written n few [] h = refl
 reads-written n few (Operation.Access k ∷ s) h =
     reads-on (byteOf (Operation.Access k)) (map byteOf s) (Operation.Access k) s (access-read k) (reads-written n few s h)
@@ -77,7 +77,7 @@ is-right way upstream target input output accepted =
     }
 
 -- bytes that a call gives are those of a run that the rule accepts
-pub record Ran (number : ℕ) (upstream target stream bytes : List ℕ) (fences state : ℕ) : Type 0 where
+pub record DirectOutput (number : ℕ) (upstream target stream bytes : List ℕ) (fences state : ℕ) : Type 0 where
   pub models : Models
   pub opened : Opened number upstream target models
   pub within : length stream ≤ 4096
@@ -88,10 +88,10 @@ pub record Ran (number : ℕ) (upstream target stream bytes : List ℕ) (fences 
   pub no-state : state ≡ 0
 
 pub gives-ran : (number : ℕ) (upstream target stream bytes : List ℕ) (fences state : ℕ)
-    → outcome number upstream target stream ≡ gives bytes fences state → Ran number upstream target stream bytes fences state
+    → outcome number upstream target stream ≡ gives bytes fences state → DirectOutput number upstream target stream bytes fences state
 gives-ran number upstream target stream bytes fences state e = by (run-is number upstream target stream) e
   where
-    by : {g : Given} → RunIs number upstream target stream g → g ≡ gives bytes fences state → Ran number upstream target stream bytes fences state
+    by : {g : Given} → RunIs number upstream target stream g → g ≡ gives bytes fences state → DirectOutput number upstream target stream bytes fences state
     by (unopened o) z = differ (cc)
     by (over o l) z = differ (cc)
     by (runs o l (at-4 place s)) z = differ (cc)
@@ -114,8 +114,8 @@ gives-ran number upstream target stream bytes fences state e = by (run-is number
 
 module _ {number : ℕ} {upstream target stream out : List ℕ} {written fences state : ℕ} {after : List ℕ}
     (call : Delivers (outcome number upstream target stream) out (Answer.Done written fences state) after) where
-  pub run-done : RunDone number upstream target stream out written fences state after
-  run-done =
+  pub done-right : RunDone number upstream target stream out written fences state after
+  done-right =
       let gave : Gave (outcome number upstream target stream) out written fences state after = done-gave call in
       let ran = gives-ran number upstream target stream (take written after) fences state (gave .is) in
       let m = ran .models in
@@ -132,7 +132,7 @@ module _ {number : ℕ} {upstream target stream out : List ℕ} {written fences 
         input-read = ran .accepts .input-read;
         input-own = ran .accepts .input-own;
         output = output;
-        output-read = subst (λ (l : List ℕ). Reads l output) (sym (ran .written)) (reads-written (length (on m .fences)) few output own);
+        output-read = subst (λ (l : List ℕ). StreamIn l output) (sym (ran .written)) (reads-written (length (on m .fences)) few output own);
         right = right;
         counted = ran .counted ∙ ap fenceBytes (ran .written) ∙ fence-bytes-are-fences (length (on m .fences)) few output own;
         no-state = ran .no-state;

@@ -17,13 +17,13 @@ use Rattle.rule.specs.Stream.{Stream, fences}
 use Rattle.rule.specs.Rule.{wayNumber, done, run}
 use Rattle.shims.specs.declared.Models.{Models}
 use Rattle.runs.specs.Call.{outcome}
-use Rattle.mealy.specs.Runs.{Machine, OnStates}
+use Rattle.mealy.specs.Runs.{Machine}
 use Rattle.mealy.specs.Order.{_≺_}
 use Rattle.mealy.proofs.Unique as mealy
 use Rattle.mealy.proofs.Unique.{described-unique}
 use Rattle.machine.specs.Shim.{lettersOf}
 use Rattle.machine.specs.Spoken.{machineOf, AnswersLikeTheRule}
-use Rattle.machine.specs.Counted.{FirstArrival}
+use Rattle.machine.specs.Counted.{OnStates, FirstArrival}
 use Rattle.machine.proofs.Theorems as machine
 use Rattle.layout.specs.Barred.{verdictOf}
 use Rattle.image.specs.Calls.{writtenBack, headerAs, Rewrites}
@@ -37,7 +37,7 @@ use Rattle.built_ins.specs.BuiltIns.{builtIn, builtInGiven}
 use Rattle.generation.specs.Generating.{ImageGiven}
 use Rattle.demands.proofs.Models.{told-given, in-range}
 use Rattle.listing.specs.Listed.{Listed}
-use Rattle.demands.specs.Streams.{Reads, Own}
+use Rattle.demands.specs.Streams.{StreamIn, Own}
 use Rattle.demands.specs.Opened.{Opened, up, on}
 use Rattle.demands.specs.DirectRuns.{RunDone}
 use Rattle.demands.specs.Generated.{GenerateDone}
@@ -54,13 +54,13 @@ use Rattle.demands.proofs.Threads as threads
 pub run-done : {number : ℕ} {upstream target stream out : List ℕ} {written fences state : ℕ} {after : List ℕ}
     → Delivers (outcome number upstream target stream) out (Answer.Done written fences state) after
     → RunDone number upstream target stream out written fences state after
-run-done = accepted.run-done
+run-done = accepted.done-right
 
 -- An accepted call of generating has written the image of the minimal machine.
 pub generate-done : (number : ℕ) (upstream target : List ℕ) {out : List ℕ} {written fences state : ℕ} {after : List ℕ}
     → Answers (ImageGiven number upstream target) out (Answer.Done written fences state) after
     → GenerateDone number upstream target out written fences state after
-generate-done number upstream target = generating.generate-done number upstream target
+generate-done number upstream target = generating.image-done number upstream target
 
 -- The machine, of the image's bytes.
 module _ {m : Models} {image : List ℕ} (i : ImageOf m image) where
@@ -69,8 +69,8 @@ module _ {m : Models} {image : List ℕ} (i : ImageOf m image) where
   image-answers-like-the-rule = machine.runs-like-the-rule (m .way) (up m) (on m) (threads.image-few i) (i .described)
 
   -- Byte 4 is the fewest: any machine on k states, of whatever kind they are, that answers like the rule has at least as many.
-  pub image-fewest-states : {S : Type 0} (rival : Machine S Stream) (k : ℕ) → OnStates rival k → AnswersLikeTheRule (m .way) (up m) (on m) rival
-      → at image 4 ≤ k
+  pub image-fewest-states : {S : Type 0} (rival : Machine S Stream) (k : ℕ) → OnStates (up m) rival k
+      → AnswersLikeTheRule (m .way) (up m) (on m) rival → at image 4 ≤ k
   image-fewest-states = machine.fewest-states (m .way) (up m) (on m) (threads.image-few i) (i .described)
 
   -- Its states are numbered by first arrival: shorter streams first, then by operation.
@@ -82,7 +82,7 @@ module _ {m : Models} {image : List ℕ} (i : ImageOf m image) where
   -- The end state of an image run from 0 is the state of the stream.
   pub image-run-leads : (stream : List ℕ) {out : List ℕ} {written fences state : ℕ} {after : List ℕ}
       → Delivers (runOver image 0 stream) out (Answer.Done written fences state) after
-      → (input : Stream) → Reads stream input → state ≡ stateAfter m image input
+      → (input : Stream) → StreamIn stream input → state ≡ stateAfter m image input
   image-run-leads stream call input reads =
       let d = threads.thread-done i (block fresh stream call) in
       d .state-is ∙ ap (stateAfter m image) (reads-one stream (d .input) input (d .input-read) reads)
@@ -90,7 +90,7 @@ module _ {m : Models} {image : List ℕ} (i : ImageOf m image) where
   -- Two accepted streams lead to the same state exactly when every continuation gets the same further output and refusals: of threads, and so of
   -- single calls.
   pub same-state-exactly-when : {s t n n′ : ℕ} {given given′ put put′ : List ℕ} → Thread image s given put n → Thread image t given′ put′ n′
-      → (v w out out′ : Stream) → Reads given v → Reads given′ w → run (m .way) (up m) (on m) v ≡ done out → run (m .way) (up m) (on m) w ≡ done out′
+      → (v w out out′ : Stream) → StreamIn given v → StreamIn given′ w → run (m .way) (up m) (on m) v ≡ done out → run (m .way) (up m) (on m) w ≡ done out′
       → (s ≡ t) ↔ SameFuture m v out w out′
   same-state-exactly-when {given = given} {given′ = given′} a b v w out out′ p q e f =
       let c = threads.thread-done i a in
@@ -106,7 +106,7 @@ module _ {m : Models} {image : List ℕ} (i : ImageOf m image) where
       → (stream : List ℕ) {out : List ℕ} {r r′ : Answer}
       {after after′ : List ℕ} → Delivers (runOver image 0 stream) out r after → Delivers (outcome number upstream target stream) out r′ after′
       → (state : ℕ) × (state < at image 4) × (r ≡ endingIn state r′) × (after ≡ after′)
-  image-run-is-direct = threads.image-run-is-direct i
+  image-run-is-direct = threads.run-over-is-direct i
 
   -- A thread passed through the image block by block, for as long as it likes, is one run of the rule over all of it: the same accesses, every pair
   -- kept across blocks too, fences exactly where they are needed, their count the sum of what was told.
@@ -143,11 +143,11 @@ image-written-back image accepted call l =
 -- A listing's lines are the machine's, `out` is the direct run's output and `fences` its count.
 pub list-done : (input : List ℕ) {out : List ℕ} {written fences state : ℕ} {after : List ℕ}
     → Answers (Listed input) out (Answer.Done written fences state) after → ListDone input out written fences state after
-list-done input = listing.list-done input
+list-done input = listing.listing-done input
 
 module _ {input out : List ℕ} {written count state : ℕ} {after : List ℕ} (listed : ListDone input out written count state after) where
   -- It lists the fewest states,
-  pub listing-fewest-states : {S : Type 0} (rival : Machine S Stream) (k : ℕ) → OnStates rival k
+  pub listing-fewest-states : {S : Type 0} (rival : Machine S Stream) (k : ℕ) → OnStates (up (listed .models)) rival k
       → AnswersLikeTheRule (listed .models .way) (up (listed .models)) (on (listed .models)) rival → listed .states ≤ k
   listing-fewest-states = machine.fewest-states _ _ _ (accepted.few-targets (listed .opened)) (listed .described)
 

@@ -14,10 +14,10 @@ use Rattle.rule.specs.Pairs.{Keeps}
 use Rattle.rule.specs.Rule.{wayNumber, Placing}
 use Rattle.shims.specs.declared.Models.{Models}
 use Rattle.runs.specs.Call.{outcome}
-use Rattle.demands.specs.Streams.{Reads, Right}
+use Rattle.demands.specs.Streams.{StreamIn, Right}
 use Rattle.demands.specs.Opened.{Opened, up, on}
 use Rattle.demands.specs.DirectRuns.{RunDone}
-use Rattle.demands.proofs.Accepted.{run-done}
+use Rattle.demands.proofs.Demand2.{run-done}
 use Rattle.demands.proofs.Opening.{opened-one}
 use Rattle.demands.proofs.Reading.{reads-one}
 
@@ -28,7 +28,7 @@ full-way Way.Full e = cc
 module _ (upstream target stream : List ℕ) {out : List ℕ} {written inserted state : ℕ} {after : List ℕ}
     (call : Delivers (outcome (wayNumber Way.Full) upstream target stream) out (Answer.Done written inserted state) after) where
   -- The number of fences that a direct run in the full way returns is at most that of any placing of the target's fences that keeps every pair.
-  pub no-one-with-fewer : {m : Models} → Opened (wayNumber Way.Full) upstream target m → (input : Stream) → Reads stream input
+  pub no-one-with-fewer : {m : Models} → Opened (wayNumber Way.Full) upstream target m → (input : Stream) → StreamIn stream input
       → (other : Stream) → Placing (on m) input other → Keeps (up m) (on m) input other → inserted ≤ fences other
   no-one-with-fewer {m} o input reads other p k =
       let d : RunDone (wayNumber Way.Full) upstream target stream out written inserted state after = run-done call in

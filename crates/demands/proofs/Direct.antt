@@ -16,17 +16,17 @@ use Rattle.rule.proofs.Theorems.{refused-exactly-when}
 use Rattle.shims.specs.declared.Models.{Models}
 use Rattle.runs.specs.Bytes.{Judged, operationsFrom, operations, faultFrom, fault, puts, outcomeOf, direct}
 use Rattle.demands.specs.Opened.{up, on}
-use Rattle.demands.specs.DirectRuns.{StopsAt, NoOperation, NoSuchFence, NoFenceWillDo, Accepts}
+use Rattle.demands.specs.DirectRuns.{StopsAt, Fault4, Fault5, Fault6, Accepts}
 use Rattle.demands.proofs.Reading as reading
 use Rattle.runs.proofs.Judging as judging
 use Rattle.runs.proofs.Judging.{AtFault, is-bad, is-good}
-use Rattle.demands.proofs.Reading.{read-then, reads-all, reads-length, faults, stands}
+use Rattle.demands.proofs.Reading.{read-then, reads-all, reads-length, faults, operation-at}
 
 pub data DirectIs (m : Models) (stream : List ℕ) : Given → Type 0 where
   puts-out : {output : Stream} → Accepts m stream output → DirectIs m stream (puts (map byteOf output))
-  at-4 : (place : ℕ) → StopsAt m stream place (NoOperation m) → DirectIs m stream (refuses (Refusal.NoOperation place))
-  at-5 : (place : ℕ) → StopsAt m stream place (NoSuchFence m) → DirectIs m stream (refuses (Refusal.NoSuchFence place))
-  at-6 : (place : ℕ) → StopsAt m stream place (NoFenceWillDo m) → DirectIs m stream (refuses (Refusal.NoFenceWillDo place))
+  at-4 : (place : ℕ) → StopsAt m stream place (Fault4 m) → DirectIs m stream (refuses (Refusal.NoOperation place))
+  at-5 : (place : ℕ) → StopsAt m stream place (Fault5 m) → DirectIs m stream (refuses (Refusal.NoSuchFence place))
+  at-6 : (place : ℕ) → StopsAt m stream place (Fault6 m) → DirectIs m stream (refuses (Refusal.NoFenceWillDo place))
 
 module _ (m : Models) (stream : List ℕ) where
   abbrev n : ℕ
@@ -46,10 +46,10 @@ module _ (m : Models) (stream : List ℕ) where
   unfolding direct
   direct-is = by (ran ops) refl (fault n 0 stream) refl
     where
-      stuck : (i : ℕ) → ran ops ≡ refused i → StopsAt m stream i (NoFenceWillDo m)
+      stuck : (i : ℕ) → ran ops ≡ refused i → StopsAt m stream i (Fault6 m)
       stuck i r =
           let w = refused-exactly-when (m .way) (up m) (on m) ops i .0 r in
-          let s = stands n 0 stream (w .first) (Operation.Access (w .kind)) (w .rest) (w .split) in
+          let s = operation-at n 0 stream (w .first) (Operation.Access (w .kind)) (w .rest) (w .split) in
           record {
             first = s .before;
             byte = s .byte;
@@ -84,8 +84,8 @@ module _ (m : Models) (stream : List ℕ) where
               }
 
           look : {is : Refusal} → AtFault n (0 + length (f .first)) (f .byte) is → DirectIs m stream (refuses is)
-          look (judging.no-operation e) = at-4 _ (at (NoOperation m) e)
-          look (judging.no-such-fence g e l) = at-5 _ (at (NoSuchFence m) (g, e, l))
+          look (judging.no-operation e) = at-4 _ (at (Fault4 m) e)
+          look (judging.no-such-fence g e l) = at-5 _ (at (Fault5 m) (g, e, l))
 
       by : (r : Ran) → ran ops ≡ r → (f : Option Refusal) → fault n 0 stream ≡ f → DirectIs m stream (outcomeOf 0 r f)
       by (refused i) r f g =

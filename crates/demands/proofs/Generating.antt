@@ -196,10 +196,10 @@ module _ {m : Models} {first second : List ℕ} (a : ImageOf m first) (b : Image
   same-length = a .size ∙ ap (λ (n : ℕ). 512 * blocksFor 1 n) same-states ∙ sym (b .size)
 
 -- An accepted call has written the image.
-pub generate-done : (number : ℕ) (upstream target : List ℕ) {out : List ℕ} {written fences state : ℕ} {after : List ℕ}
+pub image-done : (number : ℕ) (upstream target : List ℕ) {out : List ℕ} {written fences state : ℕ} {after : List ℕ}
     → Answers (ImageGiven number upstream target) out (answers.Answer.Done written fences state) after
     → GenerateDone number upstream target out written fences state after
-generate-done number upstream target {out} {written} {fences} {state} {after} call =
+image-done number upstream target {out} {written} {fences} {state} {after} call =
     by (generate-is number upstream target (call .given) (call .right)) (gave .is)
   where
     gave : Gave (call .given) out written fences state after

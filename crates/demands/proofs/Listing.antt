@@ -20,9 +20,9 @@ use Rattle.demands.specs.Listings.{ListDone}
 use Rattle.demands.proofs.Delivered.{Gave, done-gave}
 use Rattle.demands.proofs.Opening.{opens-told}
 
-pub list-done : (input : List ℕ) {out : List ℕ} {written fences state : ℕ} {after : List ℕ}
+pub listing-done : (input : List ℕ) {out : List ℕ} {written fences state : ℕ} {after : List ℕ}
     → Answers (Listed input) out (Answer.Done written fences state) after → ListDone input out written fences state after
-list-done input {out} {written} {fences} {state} {after} call =
+listing-done input {out} {written} {fences} {state} {after} call =
     let gave : Gave (call .given) out written fences state after = done-gave (call .delivered) in
     let a : AcceptedInput input (take written after) fences state
     = accepted-input input (take written after) fences state (subst (Listed input) (gave .is) (call .right)) in

@@ -40,9 +40,9 @@ use Rattle.image_runs.specs.declared.Stop.{Stop}
 use Rattle.image_runs.specs.declared.Step.{Step}
 use Rattle.image_runs.specs.Run.{stepAs, stepAt, Walked, ended, stopped, walkedOn, resumed, walked, then, refusalOf, outcomeOf, runAs, runOver}
 use Rattle.image_runs.proofs.Theorems as walks
-use Rattle.demands.specs.Streams.{Reads, Own}
+use Rattle.demands.specs.Streams.{StreamIn, Own}
 use Rattle.demands.specs.Opened.{Opened, up, on}
-use Rattle.demands.specs.DirectRuns.{StopsAt, NoFenceWillDo, Accepts}
+use Rattle.demands.specs.DirectRuns.{StopsAt, Fault6, Accepts}
 use Rattle.demands.specs.Images.{endingIn, entryAnswer, ImageOf, stateAfter, SameFuture, Thread, fresh, block}
 use Rattle.demands.specs.Images.{ThreadDone, AsOneStream, goes-on, stops}
 use Rattle.demands.proofs.Accepted.{reads-written, is-right}
@@ -50,7 +50,7 @@ use Rattle.demands.proofs.Delivered.{done-gave}
 use Rattle.demands.proofs.Direct.{DirectIs, puts-out, at-4, at-5, at-6, direct-is}
 use Rattle.demands.proofs.Reading.{Below, reads-length, written-bytes}
 use Rattle.demands.proofs.Running.{over, runs, is-run}
-use Rattle.demands.proofs.Walking.{walkOf, told, walks-as-told}
+use Rattle.demands.proofs.Walking.{walkOf, toldMachine, walks-as-told}
 
 -- what a call over an image gives by its walk, and what it has gone through where it gives bytes
 module _ (image : List ℕ) (s : ℕ) (stream : List ℕ) where
@@ -151,13 +151,13 @@ pub operations-in : (s : Stream) → operations (map letterIn s) ≡ s
 operations-in [] = refl
 operations-in (op ∷ s) = ap₂ (λ (x : Operation) (l : Stream). x ∷ l) (operation-of-letter op) (operations-in s)
 
-reads-append : (x y : List ℕ) (s t : Stream) → Reads x s → Reads y t → Reads (x ++ y) (s ++ t)
+reads-append : (x y : List ℕ) (s t : Stream) → StreamIn x s → StreamIn y t → StreamIn (x ++ y) (s ++ t)
 reads-append [] y [] t p q = q
 reads-append [] y (op ∷ s) t p q = differ (cc)
 reads-append (b ∷ x) y [] t p q = differ (cc)
 reads-append (b ∷ x) y (op ∷ s) t p q =
     let first : byteIs b ≡ Byte.Is op = cc in
-    let rest : Reads x s = cc in
+    let rest : StreamIn x s = cc in
     ap₂ (λ (c : Byte) (l : List Byte). c ∷ l) first (reads-append x y s t rest q)
 
 below-append : (n : ℕ) (s t : Stream) → Below n s → Below n t → Below n (s ++ t)
@@ -175,11 +175,11 @@ module _ {m : Models} {image : List ℕ} (i : ImageOf m image) where
   pub image-few : length (on m .fences) ≤ 16
   image-few = omega (arith, i .target-fences, layout.few-targets image (layout.accepted-faultless image (i .accepted)))
 
-  same-machine : told image ≡ machine
+  same-machine : toldMachine image ≡ machine
   same-machine = ap (λ (n : ℕ). spelling (numbered (lettersWith n) (entryAnswer image))) (i .upstream-fences)
 
   -- the walk of a stream of the upstream model's operations, by what the rule gives
-  walk-is : (bytes : List ℕ) (s : Stream) → Reads bytes s → Own (up m) s → (r : Ran) → ran s ≡ r
+  walk-is : (bytes : List ℕ) (s : Stream) → StreamIn bytes s → Own (up m) s → (r : Ran) → ran s ≡ r
       → walked image 0 bytes ≡ walkOf r (stateAfter m image s)
   walk-is bytes s e h r is =
       let own : Below (upstreamFencesOf image) s = subst (λ (n : ℕ). Below n s) (sym (i .upstream-fences)) h in
@@ -211,7 +211,7 @@ module _ {m : Models} {image : List ℕ} (i : ImageOf m image) where
       ∙ ap (stopped why) index
 
   -- an access for which no fence will do
-  stuck-there : {stream : List ℕ} {place : ℕ} → StopsAt m stream place (NoFenceWillDo m) → walked image 0 stream ≡ stopped Stop.NoFenceWillDo place
+  stuck-there : {stream : List ℕ} {place : ℕ} → StopsAt m stream place (Fault6 m) → walked image 0 stream ≡ stopped Stop.NoFenceWillDo place
   stuck-there {stream} {place} s =
       let k = s .fault .0 in
       let bytes = s .first ++ (s .byte ∷ []) in
@@ -282,7 +282,7 @@ module _ {m : Models} {image : List ℕ} (i : ImageOf m image) where
             input-read = a .input-read;
             input-own = a .input-own;
             output = output;
-            output-read = subst (λ (l : List ℕ). Reads l output) bytes
+            output-read = subst (λ (l : List ℕ). StreamIn l output) bytes
                 (reads-written (length (on m .fences)) image-few output (right .placing .its));
             right = right;
             counted = count;
@@ -367,11 +367,11 @@ module _ {m : Models} {image : List ℕ} (i : ImageOf m image) where
   some-state = thread-done fresh .state-below
 
   -- A run over the image from state 0 is the direct run, but for the end state.
-  pub image-run-is-direct : {number : ℕ} {upstream target : List ℕ} → Opened number upstream target m
+  pub run-over-is-direct : {number : ℕ} {upstream target : List ℕ} → Opened number upstream target m
       → (stream : List ℕ) {out : List ℕ} {r r′ : Answer}
       {after after′ : List ℕ} → Delivers (runOver image 0 stream) out r after → Delivers (outcome number upstream target stream) out r′ after′
       → (state : ℕ) × (state < statesOf image) × (r ≡ endingIn state r′) × (after ≡ after′)
-  image-run-is-direct {number} {upstream} {target} o stream {out} {r} {r′} {after} {after′} a b = by (decLe (length stream) 4096)
+  run-over-is-direct {number} {upstream} {target} o stream {out} {r} {r′} {after} {after′} a b = by (decLe (length stream) 4096)
     where
       ended-in : (t : ℕ) → t < statesOf image → runOver image 0 stream ≡ givenIn t (outcome number upstream target stream)
           → (state : ℕ) × (state < statesOf image) × (r ≡ endingIn state r′) × (after ≡ after′)

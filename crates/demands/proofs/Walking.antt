@@ -17,6 +17,7 @@ use Rattle.operations.specs.Alphabet.{accessLetters, lettersWith, letterOf, let
 use Rattle.operations.proofs.Bytes.{written-read}
 use Rattle.operations.proofs.Letters.{kind-of-letter, letter-few}
 use Rattle.rule.specs.Stream.{Stream, access, fence, fences}
+use Rattle.rule.proofs.Streams.{fences-append}
 use Rattle.rule.specs.Rule.{Ran, done, refused, behind}
 use Rattle.mealy.specs.Runs as mealy
 use Rattle.mealy.specs.Runs.{Machine, ends, go}
@@ -29,7 +30,7 @@ use Rattle.image_runs.specs.declared.Move.{Move}
 use Rattle.image_runs.specs.declared.Step.{Step}
 use Rattle.image_runs.specs.Run as walks
 use Rattle.image_runs.specs.Run.{accessStep, stepAt, Walked, ended, stopped, walkedOn, resumed, walked}
-use Rattle.demands.specs.Streams.{Reads}
+use Rattle.demands.specs.Streams.{StreamIn}
 use Rattle.demands.specs.Images.{accessAnswer, entryAnswer}
 use Rattle.runs.proofs.Judging.{OfN}
 use Rattle.demands.proofs.Reading.{Below, below-first, reads-first}
@@ -43,24 +44,19 @@ bytes-append : (x y : Stream) → map byteOf x ++ map byteOf y ≡ map byteOf (x
 bytes-append [] y = refl
 bytes-append (op ∷ x) y = ap (λ (l : List ℕ). byteOf op ∷ l) (bytes-append x y)
 
-fences-append : (x y : Stream) → fences x + fences y ≡ fences (x ++ y)
-fences-append [] y = omega arith
-fences-append (Operation.Access k ∷ x) y = fences-append x y
-fences-append (Operation.Fence n ∷ x) y = omega (arith, fences-append x y)
-
 walk-behind : (put : Stream) (r : Ran) (t : ℕ) → walkedOn 1 (map byteOf put) (fences put) (walkOf r t) ≡ walkOf (behind put r) t
-walk-behind put (done out) t = ap₂ (λ (b : List ℕ) (n : ℕ). ended b n t) (bytes-append put out) (fences-append put out)
+walk-behind put (done out) t = ap₂ (λ (b : List ℕ) (n : ℕ). ended b n t) (bytes-append put out) (sym (fences-append put out))
 walk-behind put (refused i) t =
     let e : 1 + i ≡ suc i = omega arith in
     ap (stopped Stop.NoFenceWillDo) e
 
 -- a step of a walk and an answer of the machine: both stop, or both put out the same and lead to the same state
-pub data Alike (b : ℕ) : Step → mealy.Answer Stream ℕ → Type 0 where
-  stop : Alike b (Step.Stopped Stop.NoFenceWillDo) mealy.refused
+pub data SameStep (b : ℕ) : Step → mealy.Answer Stream ℕ → Type 0 where
+  stop : SameStep b (Step.Stopped Stop.NoFenceWillDo) mealy.refused
   move : (m : Move) (put : Stream) → walks.puts b m ≡ map byteOf put → walks.inserts m ≡ fences put
-      → Alike b (Step.Taken m) (mealy.taken put (walks.leads m))
+      → SameStep b (Step.Taken m) (mealy.taken put (walks.leads m))
 
-alike-on : (b s : ℕ) {x : Step} {y : mealy.Answer Stream ℕ} → Alike b x y → (rest : ℕ → Walked) (ran : ℕ → Ran) (to : ℕ → ℕ)
+alike-on : (b s : ℕ) {x : Step} {y : mealy.Answer Stream ℕ} → SameStep b x y → (rest : ℕ → Walked) (ran : ℕ → Ran) (to : ℕ → ℕ)
     → ((t : ℕ) → rest t ≡ walkOf (ran t) (to t)) → resumed b rest x ≡ walkOf (say y ran) (go y s to)
 alike-on b s stop rest ran to h = refl
 alike-on b s (move m put e f) rest ran to h =
@@ -70,7 +66,7 @@ alike-on b s (move m put e f) rest ran to h =
 
 -- an access, by its entry's two bytes
 access-alike : (b : ℕ) (k : Kind) → b ≡ byteOf (Operation.Access k) → (fence next : ℕ)
-    → Alike b (accessStep fence next) (spelt (letterOf k) (accessAnswer fence next))
+    → SameStep b (accessStep fence next) (spelt (letterOf k) (accessAnswer fence next))
 access-alike b k is fence next = by (eqb fence 254) (eqb fence 255) refl
   where
     one : puts (letterOf k) 255 ≡ access k
@@ -80,7 +76,7 @@ access-alike b k is fence next = by (eqb fence 254) (eqb fence 255) refl
     two e = rw (lt-ltb (letterOf k) accessLetters (letter-few k), kind-of-letter k, e)
 
     by : (x y : Bool) → eqb fence 255 ≡ y
-        → Alike b (cond x (Step.Stopped Stop.NoFenceWillDo) (Step.Taken (cond y (Move.Plain next) (Move.Fenced (fenceByte fence) next))))
+        → SameStep b (cond x (Step.Stopped Stop.NoFenceWillDo) (Step.Taken (cond y (Move.Plain next) (Move.Fenced (fenceByte fence) next))))
         (spelt (letterOf k) (cond x mealy.refused (mealy.taken fence next)))
     by true y e = stop
     by false true e =
@@ -96,11 +92,11 @@ access-alike b k is fence next = by (eqb fence 254) (eqb fence 255) refl
 
 module _ (image : List ℕ) where
   -- the machine that the bytes tell
-  abbrev pub told : Machine ℕ Stream
-  told = spelling (numbered (lettersWith (upstreamFencesOf image)) (entryAnswer image))
+  abbrev pub toldMachine : Machine ℕ Stream
+  toldMachine = spelling (numbered (lettersWith (upstreamFencesOf image)) (entryAnswer image))
 
   step-alike : (s b : ℕ) (op : Operation) → byteIs b ≡ Byte.Is op → OfN (upstreamFencesOf image) op
-      → Alike b (stepAt image s b) (told .step s (letterIn op))
+      → SameStep b (stepAt image s b) (toldMachine .step s (letterIn op))
   unfolding stepAt
   step-alike s b (Operation.Access k) e h =
       let l = letter-few k in
@@ -116,8 +112,8 @@ module _ (image : List ℕ) where
       (move (Move.Passed next) (puts (accessLetters + f) 255) (ap (λ (l : Stream). map byteOf l) put) (ap fences put))
 
   -- The walk of bytes that read as operations is the run of the machine.
-  pub walks-as-told : (bytes : List ℕ) (s : ℕ) (ops : Stream) → Reads bytes ops → Below (upstreamFencesOf image) ops
-      → walked image s bytes ≡ walkOf (spoken told s (map letterIn ops)) (ends told s (map letterIn ops))
+  pub walks-as-told : (bytes : List ℕ) (s : ℕ) (ops : Stream) → StreamIn bytes ops → Below (upstreamFencesOf image) ops
+      → walked image s bytes ≡ walkOf (spoken toldMachine s (map letterIn ops)) (ends toldMachine s (map letterIn ops))
   unfolding walked
   walks-as-told [] s [] e h = refl
   walks-as-told [] s (op ∷ ops) e h = differ (cc)
@@ -125,5 +121,5 @@ module _ (image : List ℕ) where
   walks-as-told (b ∷ bytes) s (op ∷ ops) e h =
       let first = reads-first b bytes op ops e in
       let own = below-first (upstreamFencesOf image) op ops h in
-      alike-on b s (step-alike s b op (first .0) (own .0)) (λ (t : ℕ). walked image t bytes) (λ (t : ℕ). spoken told t (map letterIn ops))
-      (λ (t : ℕ). ends told t (map letterIn ops)) (λ t. walks-as-told bytes t ops (first .1) (own .1))
+      alike-on b s (step-alike s b op (first .0) (own .0)) (λ (t : ℕ). walked image t bytes) (λ (t : ℕ). spoken toldMachine t (map letterIn ops))
+      (λ (t : ℕ). ends toldMachine t (map letterIn ops)) (λ t. walks-as-told bytes t ops (first .1) (own .1))

@@ -16,7 +16,7 @@ use Rattle.rule.specs.Stream as streams
 use Rattle.rule.specs.Pairs.{settled}
 use Rattle.rule.specs.Rule.{done, run, NoneWillDo}
 use Rattle.shims.specs.declared.Models.{Models}
-use Rattle.demands.specs.Streams.{Reads, Own, Right}
+use Rattle.demands.specs.Streams.{StreamIn, Own, Right}
 use Rattle.demands.specs.Opened.{Opened, up, on, OpeningRefused}
 
 -- A call that was accepted: `out` is the buffer before it and `after` the buffer after it.
@@ -26,10 +26,10 @@ pub record RunDone (number : ℕ) (upstream target stream out : List ℕ) (writt
   pub within : length stream ≤ 4096
   -- the stream is operations, whose fences are the upstream model's; so is what was written, whose fences are the target model's
   pub input : Stream
-  pub input-read : Reads stream input
+  pub input-read : StreamIn stream input
   pub input-own : Own (up models) input
   pub output : Stream
-  pub output-read : Reads (take written after) output
+  pub output-read : StreamIn (take written after) output
   pub right : Right (models .way) (up models) (on models) input output
   -- the numbers, and the rest of the buffer
   pub counted : fences ≡ streams.fences output
@@ -45,29 +45,29 @@ pub record StopsAt (m : Models) (stream : List ℕ) (place : ℕ) (Fault : ℕ �
   pub split : stream ≡ first ++ (byte ∷ rest)
   pub index : length first ≡ place
   pub input : Stream
-  pub input-read : Reads first input
+  pub input-read : StreamIn first input
   pub input-own : Own (up m) input
   pub output : Stream
   pub accepted : run (m .way) (up m) (on m) input ≡ done output
   pub fault : Fault byte input output
 
 -- the faults: 4, 5 and 6
-abbrev pub NoOperation : Models → ℕ → Stream → Stream → Type 0
-NoOperation m b input output = byteIs b ≡ Byte.Nothing
+abbrev pub Fault4 : Models → ℕ → Stream → Stream → Type 0
+Fault4 m b input output = byteIs b ≡ Byte.Nothing
 
-abbrev pub NoSuchFence : Models → ℕ → Stream → Stream → Type 0
-NoSuchFence m b input output = (f : ℕ) × (byteIs b ≡ Byte.Is (Operation.Fence f)) × (length (up m .fences) ≤ f)
+abbrev pub Fault5 : Models → ℕ → Stream → Stream → Type 0
+Fault5 m b input output = (f : ℕ) × (byteIs b ≡ Byte.Is (Operation.Fence f)) × (length (up m .fences) ≤ f)
 
 -- an access at which a pair would be short, and after no fence that the way may take would none be
-abbrev pub NoFenceWillDo : Models → ℕ → Stream → Stream → Type 0
-NoFenceWillDo m b input output =
+abbrev pub Fault6 : Models → ℕ → Stream → Stream → Type 0
+Fault6 m b input output =
     (k : Kind) × (byteIs b ≡ Byte.Is (Operation.Access k)) × (settled (up m) (on m) input output k ≡ false)
     × NoneWillDo (m .way) (λ (g : ℕ). settled (up m) (on m) input (output ++ fence g) k) (length (on m .fences))
 
 -- the rule accepts the whole stream
 pub record Accepts (m : Models) (stream : List ℕ) (output : Stream) : Type 0 where
   pub input : Stream
-  pub input-read : Reads stream input
+  pub input-read : StreamIn stream input
   pub input-own : Own (up m) input
   pub accepted : run (m .way) (up m) (on m) input ≡ done output
 
@@ -80,9 +80,9 @@ pub record Exceeds (m : Models) (stream : List ℕ) (room : ℕ) : Type 0 where
 -- A stream is refused: by its length, or by the earliest byte at fault.
 pub data StreamRefused (m : Models) (stream : List ℕ) : Refusal → Type 0 where
   over-limit : 4096 < length stream → StreamRefused m stream Refusal.OverLimit
-  no-operation : (place : ℕ) → length stream ≤ 4096 → StopsAt m stream place (NoOperation m) → StreamRefused m stream (Refusal.NoOperation place)
-  no-such-fence : (place : ℕ) → length stream ≤ 4096 → StopsAt m stream place (NoSuchFence m) → StreamRefused m stream (Refusal.NoSuchFence place)
-  no-fence-will-do : (place : ℕ) → length stream ≤ 4096 → StopsAt m stream place (NoFenceWillDo m)
+  no-operation : (place : ℕ) → length stream ≤ 4096 → StopsAt m stream place (Fault4 m) → StreamRefused m stream (Refusal.NoOperation place)
+  no-such-fence : (place : ℕ) → length stream ≤ 4096 → StopsAt m stream place (Fault5 m) → StreamRefused m stream (Refusal.NoSuchFence place)
+  no-fence-will-do : (place : ℕ) → length stream ≤ 4096 → StopsAt m stream place (Fault6 m)
       → StreamRefused m stream (Refusal.NoFenceWillDo place)
 
 -- A call is refused, where the buffer has this room: by its opening, by the stream, or last by the room.

@@ -26,7 +26,7 @@ use Rattle.layout.specs.Barred.{statesOf, upstreamFencesOf, targetFencesOf, ver
 use Rattle.image.specs.Image.{headerOf}
 use Rattle.image_runs.specs.declared.Stop.{Stop}
 use Rattle.image_runs.specs.Run.{refusalOf, runOver}
-use Rattle.demands.specs.Streams.{Reads, Own, Right}
+use Rattle.demands.specs.Streams.{StreamIn, Own, Right}
 use Rattle.demands.specs.Opened.{up, on}
 
 -- what the bytes of a state's entry answer to a letter
@@ -70,10 +70,10 @@ pub data Thread (image : List ℕ) : ℕ → List ℕ → List ℕ → ℕ → T
 -- what a thread has done: one run of the rule over all of it
 pub record ThreadDone (m : Models) (image : List ℕ) (state : ℕ) (given put : List ℕ) (inserted : ℕ) : Type 0 where
   pub input : Stream
-  pub input-read : Reads given input
+  pub input-read : StreamIn given input
   pub input-own : Own (up m) input
   pub output : Stream
-  pub output-read : Reads put output
+  pub output-read : StreamIn put output
   pub right : Right (m .way) (up m) (on m) input output
   pub counted : inserted ≡ fences output
   pub state-is : state ≡ stateAfter m image input

@@ -20,8 +20,8 @@ use Rattle.rule.specs.Pairs.{Model, fenceTable, isRow, isColumn, asked, Keeps, 
 use Rattle.rule.specs.Rule.{Takes, done, run, Placing, everyFence}
 
 -- each byte is the operation in its place
-abbrev pub Reads : List ℕ → Stream → Type 0
-Reads bytes s = map byteIs bytes ≡ map (λ (op : Operation). Byte.Is op) s
+abbrev pub StreamIn : List ℕ → Stream → Type 0
+StreamIn bytes s = map byteIs bytes ≡ map (λ (op : Operation). Byte.Is op) s
 
 -- its fences are the model's
 abbrev pub Own : Model → Stream → Type 0

@@ -1,4 +1,5 @@
 pub mod Stages
 pub mod Canonicals
+pub mod Determined
 pub mod Unique
 pub mod Theorems

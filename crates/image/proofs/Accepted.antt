@@ -19,7 +19,7 @@ use Rattle.layout.specs.inner.Faultless.{Faultless}
 use Rattle.layout.specs.inner.Standing.{Stands}
 use Rattle.layout.proofs.Faultless.{first-block, unbarred, rule-at, some-states, length-is, few-upstream, few-targets, block-of}
 use Rattle.layout.proofs.Faultless.{entry-fence, entry-next-rule, entry-next, entry-onward}
-use Rattle.layout.proofs.Inverse.{equal}
+use Rattle.layout.proofs.Failing.{equal}
 use Rattle.layout.proofs.Standing.{stands, upstream-at, target-at}
 use Rattle.layout.proofs.Sums.{check-same}
 use Rattle.image.specs.Image.{word, half, used, valueAs, valueAt, checkFor, byteAt, imageOf, headerOf, entryWord, rowsOf, AccessWord, Canonical}

@@ -10,7 +10,7 @@ use Rattle.ground.proofs.Truths.{true-false}
 use Rattle.ground.specs.Bytes.{at, nameByte}
 use Rattle.layout.specs.Barred.{ended, barredName}
 use Rattle.image.specs.Image.{listed, NameField}
-use Rattle.layout.proofs.Inverse.{chosen}
+use Rattle.layout.proofs.Failing.{chosen}
 use Rattle.image.proofs.Fronts.{length-listed, at-listed}
 
 pub name-nonzero : (b : ℕ) → nameByte b ≡ true → b ≡ 0 → ⊥

@@ -16,6 +16,7 @@ use Rattle.operations.specs.declared.Byte.{Byte}
 use Rattle.operations.specs.Operation.{byteIs, fenceByte, isFence, fenceBytes}
 use Rattle.operations.specs.Alphabet.{letterOf}
 use Rattle.operations.proofs.Bytes.{fence-read}
+use Rattle.operations.proofs.Letters.{letter-few}
 use Rattle.operations.proofs.Counting.{fences-append}
 use Rattle.layout.specs.Layout.{position}
 use Rattle.layout.specs.Barred.{statesOf, upstreamFencesOf, targetFencesOf, verdictOf}
@@ -73,12 +74,6 @@ access-counts b k e = ap (λ (x : Byte). isFence x + 0) e
 fence-counts : (g b : ℕ) (k : Kind) → g < 16 → byteIs b ≡ Byte.Is (Operation.Access k) → fenceBytes (fenceByte g ∷ b ∷ []) ≡ 1
 unfolding fenceBytes
 fence-counts g b k l e = ap₂ (λ (x y : Byte). isFence x + (isFence y + 0)) (fence-read g l) e
-
-letter-few : (k : Kind) → letterOf k < 4
-letter-few Kind.Ld = omega arith
-letter-few Kind.Cld = omega arith
-letter-few Kind.St = omega arith
-letter-few Kind.Cst = omega arith
 
 module _ (image : List ℕ) (bytes : (i : ℕ) → at image i < 256) (faultless : Faultless image) where
   access-sound : (b : ℕ) (k : Kind) → byteIs b ≡ Byte.Is (Operation.Access k) → (fence next : ℕ)

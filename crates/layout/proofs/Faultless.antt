@@ -22,7 +22,7 @@ use Rattle.layout.specs.Barred.{wrong, blockCount, wrongCount, barredFen
 use Rattle.layout.specs.Barred.{barredAs, barred, lowestWrong, lowestBarred, stages, verdictOf}
 use Rattle.layout.specs.inner.Faultless.{Faultless, Block}
 use Rattle.ground.proofs.Lowest.{lowest-nowhere}
-use Rattle.layout.proofs.Inverse.{neither, chosen, equal}
+use Rattle.layout.proofs.Failing.{neither, chosen, equal}
 use Rattle.layout.proofs.Standing.{fence-at, next-at, onward-at, within-image}
 
 -- the stages of an acceptance

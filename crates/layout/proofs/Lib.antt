@@ -5,6 +5,6 @@ pub mod Names
 pub mod Standing
 pub mod Verdicts
 pub mod Zeros
-pub mod Inverse
+pub mod Failing
 pub mod Faultless
 pub mod Unique

@@ -15,7 +15,7 @@ use Rattle.rule.specs.Stream.{Stream}
 use Rattle.rule.specs.Pairs.{Model}
 use Rattle.rule.specs.Sides.{upstreamOf, targetOf}
 use Rattle.rule.specs.Rule.{done, onward, run}
-use Rattle.mealy.specs.Runs.{Answer, Machine as Mealy, ends, reached, Same, OnStates}
+use Rattle.mealy.specs.Runs.{Answer, Machine as Mealy, ends, reached, Same}
 use Rattle.mealy.specs.Order.{_≺_}
 use Rattle.mealy.specs.Arrivals.{arrival, More, Described, numbered}
 use Rattle.mealy.proofs.Pigeonhole.{pigeonhole}
@@ -26,7 +26,7 @@ use Rattle.mealy.proofs.Describing.{starts, lands, run-fresh}
 use Rattle.machine.specs.Shim.{lettersOf, shim}
 use Rattle.machine.specs.Generated.{Unmade, crowded, overfull, roomless, named, Generated}
 use Rattle.machine.specs.Spoken.{Letters, operations, machineOf, spoken, AnswersLikeTheRule}
-use Rattle.machine.specs.Counted.{SameSituation, SameState, NumberOf, ManySituations, ManyStates, FirstArrival}
+use Rattle.machine.specs.Counted.{SameSituation, SameState, NumberOf, OnStates, ManySituations, ManyStates, FirstArrival}
 use Rattle.machine.specs.declared.machine.Machine.{Machine}
 use Rattle.machine.specs.declared.machine.Outcome.{Outcome}
 use Rattle.machine.proofs.Zeros.{at-most-sixteen}
@@ -123,14 +123,14 @@ module _ (way : Way) (up target : Model) (few : length (target .fences) ≤ 16) 
   )
 
   -- Any machine on j states, of whatever kind they are, that answers like the rule has at least as many states.
-  pub fewest-states : {S : Type 0} (n : Mealy S Stream) (j : ℕ) → OnStates n j → AnswersLikeTheRule way up target n → k ≤ j
+  pub fewest-states : {S : Type 0} (n : Mealy S Stream) (j : ℕ) → OnStates up n j → AnswersLikeTheRule way up target n → k ≤ j
   fewest-states n j on like =
       let ws = d .streams in
       let here : (i : ℕ) → i < length ws → Letters (lettersOf up) (getD ws i [])
       × ((out : Stream) × (run way up target (operations (getD ws i [])) ≡ done out))
       = λ i h. accepted-run way up target few (getD ws i []) (d .first .accepted i h) in
       let fits : length ws ≤ j
-      = pigeonhole (length ws) j (λ i h. on .number (reached n (getD ws i []))) (λ i h. on .below (getD ws i []))
+      = pigeonhole (length ws) j (λ i h. on .number (reached n (getD ws i []))) (λ i h. on .below (getD ws i []) (here i h .0))
       (λ i l h p lt e.
       d .first .apart i l lt p
       (same-state way up target few (getD ws i []) (getD ws l []) (here i h .0) (here l p .0) (here i h .1 .0) (here l p .1 .0)
@@ -138,7 +138,7 @@ module _ (way : Way) (up target : Model) (few : length (target .fences) ≤ 16) 
       (here l p .1 .1) .1
       (λ y r.
       sym (goes-on way up target n like (getD ws i []) (here i h .0) (here i h .1 .0) (here i h .1 .1) y r)
-      ∙ ap (λ s. spoken n s y) (on .own _ _ e)
+      ∙ ap (λ s. spoken n s y) (on .apart (getD ws i []) (getD ws l []) (here i h .0) (here l p .0) e)
       ∙ goes-on way up target n like (getD ws l []) (here l p .0) (here l p .1 .0) (here l p .1 .1) y r))) in
       omega (arith, fits, d .count)
 

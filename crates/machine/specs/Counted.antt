@@ -45,6 +45,14 @@ pub record NumberOf (n : ℕ) (way : Way) (up target : Model) (R : Stream → St
   pub more : (k : ℕ) → k < n → MoreThan k way up target R
   pub no-more : MoreThan n way up target R → ⊥
 
+-- A machine on k states, of whatever kind they are: those that streams of the upstream model's letters lead to have numbers below k, and no two of
+-- them the same number.
+pub record OnStates {S : Type 0} (up : Model) (m : Machine S Stream) (k : ℕ) : Type 0 where
+  pub number : S → ℕ
+  pub below : (w : List ℕ) → Letters (lettersOf up) w → number (reached m w) < k
+  pub apart : (v w : List ℕ) → Letters (lettersOf up) v → Letters (lettersOf up) w → number (reached m v) ≡ number (reached m w)
+      → reached m v ≡ reached m w
+
 -- the first arrival at a state of a machine: an accepted stream that leads there, and that no accepted stream that leads there arrives before
 pub record FirstArrival {S : Type 0} (way : Way) (up target : Model) (m : Machine S Stream) (i : S) (v : List ℕ) : Type 0 where
   pub letters : Letters (lettersOf up) v

@@ -65,9 +65,3 @@ reached m w = ends m (m .fresh) w
 -- two situations are the same state: every continuation gets the same outputs and the same refusals
 pub record Same {S O : Type 0} (m : Machine S O) (s t : S) : Type 0 where
   pub same : (w : List ℕ) → gets m s w ≡ gets m t w
-
--- a machine on k states, of whatever kind they are: the states that streams lead to can be numbered below k, no two states by one number
-pub record OnStates {S O : Type 0} (m : Machine S O) (k : ℕ) : Type 0 where
-  pub number : S → ℕ
-  pub below : (w : List ℕ) → number (reached m w) < k
-  pub own : (s t : S) → number s ≡ number t → s ≡ t

@@ -12,20 +12,13 @@ use Rattle.tables.specs.declared.table.Row.{Row}
 use Rattle.tables.specs.declared.table.Column.{Column}
 use Rattle.tables.specs.Strength.{levelOf, letter}
 use Rattle.tables.specs.Table.{rowNumber, columnNumber, cell, Clean}
+use Rattle.tables.proofs.Strengths.{level-letter}
 use Rattle.tables.proofs.Laws.{row-below, column-below, cell-below, cell-made, table-cong, table-own}
 use Rattle.models.specs.Text.{tablePart}
 use Rattle.texts.specs.Pattern.{cellByte, fits, Follows}
 use Rattle.models.specs.inner.Lines.{tablePattern}
 use Rattle.models.specs.Reading.{tableIn}
 use Rattle.texts.proofs.Pattern.{length-follows, follow-at}
-
--- a letter for each level, a level for each letter
-level-letter : (n : ℕ) → n < 4 → levelOf (letter n) ≡ n
-level-letter zero l = refl
-level-letter (suc zero) l = refl
-level-letter (suc (suc zero)) l = refl
-level-letter (suc (suc (suc zero))) l = refl
-level-letter (suc (suc (suc (suc n)))) l = absurd (omega arith)
 
 either : (a b : Bool) → T (a || b) → T a ⊎ T b
 either true b t = inl tt

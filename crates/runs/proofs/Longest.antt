@@ -1,5 +1,5 @@
--- What a direct run puts out at most: for each operation an access with a fence before it, and no fence before the first access, since no pair
--- ends there. Assumes nothing.
+-- What a direct run has done that gives bytes (`Done`), and what it puts out at most: for each operation an access with a fence before it, and no
+-- fence before the first access, since no pair ends there. Assumes nothing.
 use Prim.Native.Nat.{ℕ, suc, _+_, _-_, _*_, _<_, _≤_}
 use mathlib.Core.Path.{_≡_, refl, sym, ap, _∙_}
 use mathlib.Core.Bool.{false}

@@ -110,7 +110,7 @@ table-own t h =
     (λ i l. ap (digit (t .packed)) (place-own i l))
     ∙ packed-own (t .packed) cells h)
 
--- so two tables without stray bits whose cells agree are equal
+-- For readers: so a table is known by its cells, if it has no stray bits.
 pub same-cells : (a b : Table) → Clean a → Clean b → ((r : Row) (c : Column) → cell a r c ≡ cell b r c) → a ≡ b
 same-cells a b ca cb h = sym (table-own a ca) ∙ table-cong (cell a) (cell b) h ∙ table-own b cb
 
