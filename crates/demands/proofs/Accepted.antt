@@ -6,7 +6,7 @@ use mathlib.Core.Bool.{true}
 use mathlib.Core.Logic.{_⊎_, inl, inr}
 use mathlib.Core.List.{List, [], _∷_, map}
 use native.Mathlib.Omega.{arith}
-use lib.ListN.{length, take}
+use lib.ListN.{length, take, length-map}
 use Rattle.ground.proofs.Truths.{differ}
 use Rattle.answers.specs.declared.Answer.{Answer}
 use Rattle.answers.specs.Given.{Given, gives, Delivers}
@@ -134,6 +134,7 @@ module _ {number : ℕ} {upstream target stream out : List ℕ} {written fences 
         output = output;
         output-read = subst (λ (l : List ℕ). StreamIn l output) (sym (ran .written)) (reads-written (length (on m .fences)) few output own);
         right = right;
+        size = sym (gave .size) ∙ ap length (ran .written) ∙ length-map output byteOf;
         counted = ran .counted ∙ ap fenceBytes (ran .written) ∙ fence-bytes-are-fences (length (on m .fences)) few output own;
         no-state = ran .no-state;
         fits = gave .fits;

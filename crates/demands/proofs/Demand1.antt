@@ -1,12 +1,12 @@
 -- Demand 1: "Every public call takes every text, stream, image, number and buffer, of length nought too, stays within bounds and ends." That is
 -- what a proof of a function in Rattle says, and no public function has a `requires`. "Bad input is refused by the number and place that document
 -- 01 gives; a refused call writes nothing": here, of the answers and the buffers. Assumes nothing.
-use Prim.Native.Nat.{ℕ}
+use Prim.Native.Nat.{ℕ, _≤_}
 use mathlib.Core.Path.{_≡_, refl, ap, subst}
 use mathlib.Core.Logic.{_↔_}
 use mathlib.Core.List.{List, [], _∷_, map}
 use native.Mathlib.Omega.{arith}
-use lib.ListN.{length, length-map}
+use lib.ListN.{length, take, drop, length-map}
 use Rattle.ground.proofs.Truths.{differ}
 use Rattle.answers.specs.declared.Refusal.{Refusal}
 use Rattle.answers.specs.declared.Answer.{Answer}
@@ -24,18 +24,18 @@ use Rattle.writing.specs.Calls.{backGiven}
 use Rattle.built_ins.specs.BuiltIns.{builtInGiven}
 use Rattle.comparison.specs.declared.Compared.{Compared}
 use Rattle.comparison.specs.Comparison.{comparing}
-use Rattle.host.specs.Border.{comparedAs, relationOf, TellsRelation}
+use Rattle.host.specs.Border.{numberIn, comparedAs, relationOf, TellsRelation}
 use Rattle.generation.specs.Generating.{ImageGiven}
 use Rattle.listing.specs.Listed.{Listed}
 use Rattle.demands.specs.Listings.{ListRefused}
 use Rattle.demands.proofs.Lists.{withheld-listing, listing-withheld}
-use Rattle.demands.specs.ModelCalls.{ModelRefused, BuiltInRefused, ComparedAs}
+use Rattle.demands.specs.ModelCalls.{ModelRefused, BuiltInRefused, TextsCompare}
 use Rattle.demands.proofs.Models.{model-told, told-model, built-in-told, told-built-in, compared-told}
 use Rattle.demands.specs.ImageCalls.{ImageRefused, ReadRefused, ImageRunRefused}
 use Rattle.demands.proofs.Images.{verdict-told, told-verdict, back-told, told-back, run-told, told-run}
 use Rattle.demands.specs.Generated as generate
 use Rattle.demands.specs.Generated.{GenerateRefused, situations, states, ImageExceeds}
-use Rattle.demands.proofs.Delivered.{Withheld, refused, exceeds, refused-withheld, withheld-refused}
+use Rattle.demands.proofs.Delivered.{done-gave, Withheld, refused, exceeds, refused-withheld, withheld-refused}
 use Rattle.demands.proofs.Direct.{puts-out, at-4, at-5, at-6}
 use Rattle.demands.proofs.Generating as generating
 use Rattle.demands.proofs.Generating.{MachineIs, crowded, overfull, made, GenerateIs, opens, generate-is, unopened-is, same-length}
@@ -47,6 +47,15 @@ use Rattle.demands.proofs.Running.{RunIs, unopened, over, runs, run-is,
 pub refused-writes-nothing : {given : Given} {out after : List ℕ} {why : Refusal} → Delivers given out (Answer.Refused why) after
     → (numbersOf (Answer.Refused why) ≡ numberOf why ∷ placeOf why ∷ 0 ∷ 0 ∷ 0 ∷ []) × (after ≡ out)
 refused-writes-nothing d = (refl, refused-withheld d .0)
+
+-- And a call that succeeds changes the first bytes alone, as many as it tells: bytes past those written stay.
+pub done-writes-the-front : {given : Given} {out after : List ℕ} {written fences state : ℕ}
+    → Delivers given out (Answer.Done written fences state) after
+    → (numbersOf (Answer.Done written fences state) ≡ 0 ∷ 0 ∷ written ∷ fences ∷ state ∷ [])
+    × (written ≤ length out) × (length (take written after) ≡ written) × (drop written after ≡ drop written out)
+done-writes-the-front d =
+    let gave = done-gave d in
+    (refl, gave .fits, gave .size, gave .rest)
 
 -- A direct run is refused exactly when 01 says, with the place that it gives.
 module _ {number : ℕ} {upstream target stream out : List ℕ} {r : Answer} {after : List ℕ}
@@ -158,6 +167,11 @@ image-read-refused-exactly-when image {out} {after = after} call why = (
   λ h. withheld-refused (call .delivered) (told-back image (length out) h),
 )
 
+-- The four numbers of the header are zeros then.
+pub image-read-refused-header : (image : List ℕ) {out header after : List ℕ} {why : Refusal} → Rewrites image out header (Answer.Refused why) after
+    → header ≡ 0 ∷ 0 ∷ 0 ∷ 0 ∷ []
+image-read-refused-header image call = call .header-told
+
 pub image-run-refused-exactly-when : (image : List ℕ) (start : ℕ) (stream : List ℕ) {out : List ℕ} {r : Answer} {after : List ℕ}
     → Delivers (runOver image start stream) out r after → (why : Refusal)
     → (r ≡ Answer.Refused why) ↔ ImageRunRefused image start stream (length out) why
@@ -183,7 +197,8 @@ built-in-refused-exactly-when number {out} {after = after} call why = (
   λ h. withheld-refused call (told-built-in number (length out) h),
 )
 
--- Two models compare as 01 says, refusals too: `compared` is what the call's relation and numbers are those of.
-pub compared-as : (first second : List ℕ) {number relation : ℕ} {numbers : List ℕ} → TellsRelation (comparing first second) number relation numbers
-    → (compared : Compared) × ComparedAs first second compared × (relation ≡ relationOf compared) × (numbers ≡ numbersOf (comparedAs compared))
-compared-as first second call = (comparing first second, compared-told first second, call .set, call .told)
+-- Two models compare as 01 says, refusals too: `compared` is what the number that the call returns, its relation and its five numbers are those of.
+pub compare-told : (first second : List ℕ) {number relation : ℕ} {numbers : List ℕ} → TellsRelation (comparing first second) number relation numbers
+    → (compared : Compared) × TextsCompare first second compared × (number ≡ numberIn (comparedAs compared)) × (relation ≡ relationOf compared)
+    × (numbers ≡ numbersOf (comparedAs compared))
+compare-told first second call = (comparing first second, compared-told first second, call .returned, call .set, call .told)

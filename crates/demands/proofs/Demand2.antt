@@ -14,16 +14,16 @@ use Rattle.answers.specs.declared.Verdict.{Verdict}
 use Rattle.answers.specs.Given.{gives, unlessRefused, Delivers, Answers}
 use Rattle.operations.specs.Operation.{fenceBytes}
 use Rattle.rule.specs.Stream.{Stream, fences}
-use Rattle.rule.specs.Rule.{wayNumber, done, run}
+use Rattle.rule.specs.Rule.{wayNumber, done, onward, run}
 use Rattle.shims.specs.declared.Models.{Models}
 use Rattle.runs.specs.Call.{outcome}
-use Rattle.mealy.specs.Runs.{Machine}
+use Rattle.mealy.specs.Runs.{Machine, reached}
 use Rattle.mealy.specs.Order.{_≺_}
 use Rattle.mealy.proofs.Unique as mealy
 use Rattle.mealy.proofs.Unique.{described-unique}
 use Rattle.machine.specs.Shim.{lettersOf}
-use Rattle.machine.specs.Spoken.{machineOf, AnswersLikeTheRule}
-use Rattle.machine.specs.Counted.{OnStates, FirstArrival}
+use Rattle.machine.specs.Spoken.{Letters, operations, machineOf, spoken, AnswersLikeTheRule}
+use Rattle.machine.specs.Counted.{SameState, OnStates, FirstArrival}
 use Rattle.machine.proofs.Theorems as machine
 use Rattle.layout.specs.Barred.{verdictOf}
 use Rattle.image.specs.Calls.{writtenBack, headerAs, Rewrites}
@@ -79,6 +79,13 @@ module _ {m : Models} {image : List ℕ} (i : ImageOf m image) where
       × ((s t : ℕ) → s < t → t < at image 4 → firsts s ≺ firsts t)
   image-numbered-by-first-arrival = machine.numbered-by-first-arrival (m .way) (up m) (on m) (threads.image-few i) (i .described)
 
+  -- A run from a state is the continuation of any accepted stream that leads there.
+  pub image-run-from-a-state : (s : ℕ) (v : List ℕ) → Letters (lettersOf (up m)) v → (out : Stream)
+      → run (m .way) (up m) (on m) (operations v) ≡ done out → reached (machineOf (up m) (entryAnswer image)) v ≡ s
+      → (w : List ℕ) → Letters (lettersOf (up m)) w
+      → spoken (machineOf (up m) (entryAnswer image)) s w ≡ onward (m .way) (up m) (on m) (operations v) out (operations w)
+  image-run-from-a-state = machine.run-from-a-state (m .way) (up m) (on m) (threads.image-few i) (i .described)
+
   -- The end state of an image run from 0 is the state of the stream.
   pub image-run-leads : (stream : List ℕ) {out : List ℕ} {written fences state : ℕ} {after : List ℕ}
       → Delivers (runOver image 0 stream) out (Answer.Done written fences state) after
@@ -115,7 +122,7 @@ module _ {m : Models} {image : List ℕ} (i : ImageOf m image) where
 
   -- And its next block gets what the one stream would get, refusals too.
   pub as-one-stream : {state inserted : ℕ} {given put : List ℕ} → Thread image state given put inserted → (bytes : List ℕ) → length bytes ≤ 4096
-      → {out after : List ℕ} {r : Answer} → Delivers (runOver image state bytes) out r after → AsOneStream m image given put bytes (length out) r
+      → {out after : List ℕ} {r : Answer} → Delivers (runOver image state bytes) out r after → AsOneStream m image given put bytes out r after
   as-one-stream = threads.as-one-stream i
 
 -- Any accepted image, handmade too: the fences that a run tells are the fence bytes that it wrote, and it ends in one of the image's states.
@@ -146,12 +153,31 @@ pub list-done : (input : List ℕ) {out : List ℕ} {written fences state : ℕ}
 list-done input = listing.listing-done input
 
 module _ {input out : List ℕ} {written count state : ℕ} {after : List ℕ} (listed : ListDone input out written count state after) where
-  -- It lists the fewest states,
+  -- It lists the fewest states
   pub listing-fewest-states : {S : Type 0} (rival : Machine S Stream) (k : ℕ) → OnStates (up (listed .models)) rival k
       → AnswersLikeTheRule (listed .models .way) (up (listed .models)) (on (listed .models)) rival → listed .states ≤ k
   listing-fewest-states = machine.fewest-states _ _ _ (accepted.few-targets (listed .opened)) (listed .described)
 
-  -- the states of the image of the same two models, with the answers that its bytes have,
+  -- of a machine that answers like the rule,
+  pub listing-answers-like-the-rule : AnswersLikeTheRule (listed .models .way) (up (listed .models)) (on (listed .models))
+      (machineOf (up (listed .models)) (listed .row))
+  listing-answers-like-the-rule = machine.runs-like-the-rule _ _ _ (accepted.few-targets (listed .opened)) (listed .described)
+
+  -- numbered by first arrival,
+  pub listing-numbered-by-first-arrival : (firsts : ℕ → List ℕ)
+      × ((s : ℕ) → s < listed .states → FirstArrival (listed .models .way) (up (listed .models)) (on (listed .models))
+      (machineOf (up (listed .models)) (listed .row)) s (firsts s)) × ((s t : ℕ) → s < t → t < listed .states → firsts s ≺ firsts t)
+  listing-numbered-by-first-arrival = machine.numbered-by-first-arrival _ _ _ (accepted.few-targets (listed .opened)) (listed .described)
+
+  -- two streams leading to the same state exactly when every continuation gets the same;
+  pub listing-same-state-exactly-when : (v w : List ℕ) → Letters (lettersOf (up (listed .models))) v → Letters (lettersOf (up (listed .models))) w
+      → (out out′ : Stream) → run (listed .models .way) (up (listed .models)) (on (listed .models)) (operations v) ≡ done out
+      → run (listed .models .way) (up (listed .models)) (on (listed .models)) (operations w) ≡ done out′
+      → (reached (machineOf (up (listed .models)) (listed .row)) v ≡ reached (machineOf (up (listed .models)) (listed .row)) w)
+      ↔ SameState (listed .models .way) (up (listed .models)) (on (listed .models)) (operations v) out (operations w) out′
+  listing-same-state-exactly-when = machine.same-state-exactly-when _ _ _ (accepted.few-targets (listed .opened)) (listed .described)
+
+  -- they are the states of the image of the same two models, with the answers that its bytes have,
   pub listing-is-the-image : {image : List ℕ} → ImageOf (listed .models) image
       → (listed .states ≡ at image 4)
       × ((s a : ℕ) → s < listed .states → a < lettersOf (up (listed .models)) → listed .row s a ≡ entryAnswer image s a)

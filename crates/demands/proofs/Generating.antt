@@ -218,6 +218,7 @@ image-done number upstream target {out} {written} {fences} {state} {after} call 
           image = subst (ImageOf m) bytes i;
           no-fences = cc;
           no-state = cc;
+          size = gave .size;
           fits = gave .fits;
           rest-kept = gave .rest;
         }

@@ -42,6 +42,7 @@ listing-done input {out} {written} {fences} {state} {after} call =
       text = a .text-is;
       counted = a .fences-are;
       no-state = a .no-state;
+      size = gave .size;
       fits = gave .fits;
       rest-kept = gave .rest;
     }

@@ -21,7 +21,7 @@ use Rattle.built_ins.specs.BuiltIns.{builtIn, builtInReading, builtInGiven}
 use Rattle.comparison.specs.Comparison.{comparedBoth, comparedFirst, comparing}
 use Rattle.comparison.proofs.Words.{compares}
 use Rattle.demands.specs.ModelCalls as calls
-use Rattle.demands.specs.ModelCalls.{ModelRefused, text-refused, BuiltInRefused, out-of-range, ComparedAs, first-refused, second-refused}
+use Rattle.demands.specs.ModelCalls.{ModelRefused, text-refused, BuiltInRefused, out-of-range, TextsCompare, first-refused, second-refused}
 use Rattle.demands.proofs.Delivered.{Withheld, refused, exceeds, refused-as}
 use Rattle.demands.proofs.Opening.{told-refused, told-accepted}
 
@@ -73,16 +73,16 @@ module _ (number room : ℕ) where
   told-built-in (calls.too-small l k) = exceeds (in-range l) k
 
 -- Two texts compare as 01 says.
-pub compared-told : (first second : List ℕ) → ComparedAs first second (comparing first second)
+pub compared-told : (first second : List ℕ) → TextsCompare first second (comparing first second)
 unfolding comparing
 compared-told first second = by (reading first .verdict) refl
   where
     both : Told first (accepting (reading first .model)) → (v : Verdict) → reading second .verdict ≡ v
-        → ComparedAs first second (comparedBoth (reading first .model .ppo) v (reading second .model .ppo))
+        → TextsCompare first second (comparedBoth (reading first .model .ppo) v (reading second .model .ppo))
     both a (Verdict.Refused why) e = second-refused a (told-refused second e)
     both a Verdict.Accepted e = calls.compares a (told-accepted second e) (compares _ _)
 
     by : (v : Verdict) → reading first .verdict ≡ v
-        → ComparedAs first second (comparedFirst v (reading first .model .ppo) (reading second))
+        → TextsCompare first second (comparedFirst v (reading first .model .ppo) (reading second))
     by (Verdict.Refused why) e = first-refused (told-refused first e)
     by Verdict.Accepted e = both (told-accepted first e) (reading second .verdict) refl

@@ -298,8 +298,8 @@ module _ {m : Models} {image : List ℕ} (i : ImageOf m image) where
 
   -- The next block gets what the one stream would get.
   pub as-one-stream : {s n : ℕ} {given put : List ℕ} → Thread image s given put n → (bytes : List ℕ) → length bytes ≤ 4096
-      → {out after : List ℕ} {r : Answer} → Delivers (runOver image s bytes) out r after → AsOneStream m image given put bytes (length out) r
-  as-one-stream {s} {n} {given} {put} th bytes few {out} {r = r} call =
+      → {out after : List ℕ} {r : Answer} → Delivers (runOver image s bytes) out r after → AsOneStream m image given put bytes out r after
+  as-one-stream {s} {n} {given} {put} th bytes few {out} {after} {r} call =
       by (walked image s bytes) refl refl (walked-as (given ++ bytes))
     where
       before : ThreadDone m image s given put n
@@ -316,11 +316,16 @@ module _ {m : Models} {image : List ℕ} (i : ImageOf m image) where
           sym (call .answer ∙ ap (λ (g : Given). answerOf g (length out))
           (over-walk image s bytes (i .accepted) (before .state-below) few ∙ ap outcomeOf e))
 
+      left : (w : Walked) → walked image s bytes ≡ w → bufferOf (outcomeOf w) out ≡ after
+      left w e =
+          sym (call .buffer ∙ ap (λ (g : Given). bufferOf g out)
+          (over-walk image s bytes (i .accepted) (before .state-below) few ∙ ap outcomeOf e))
+
       count : fenceBytes put ≡ n
       count = put-counted before
 
       by : (w : Walked) → walked image s bytes ≡ w → {g : Given} → g ≡ direct (m .way) (up m) (on m) (given ++ bytes) → WalkedAs (given ++ bytes) g
-          → AsOneStream m image given put bytes (length out) r
+          → AsOneStream m image given put bytes out r after
       by (ended rest f t) e is (stops-at why k z) =
           let w : ended (put ++ rest) (n + f) t ≡ stopped why k = sym (both (ended rest f t) e) ∙ z in
           differ (cc)
@@ -331,7 +336,7 @@ module _ {m : Models} {image : List ℕ} (i : ImageOf m image) where
       by (stopped why k) e is (stops-at stop place z) =
           let w : stopped stop place ≡ stopped why (length given + k) = sym z ∙ both (stopped why k) e in
           let same : refuses (refusalOf stop place) ≡ refuses (refusalOf why (length given + k)) = cc in
-          subst (AsOneStream m image given put bytes (length out)) (answered (stopped why k) e) (stops why k (sym is ∙ same))
+          subst₂ (AsOneStream m image given put bytes out) (answered (stopped why k) e) (left (stopped why k) e) (stops why k (sym is ∙ same))
       by (ended rest f t) e is (ends-at {output = output} a z) =
           let w : ended (map byteOf output) (fences output) (stateAfter m image (a .input)) ≡ ended (put ++ rest) (n + f) t
           = sym z ∙ both (ended rest f t) e in
@@ -342,8 +347,8 @@ module _ {m : Models} {image : List ℕ} (i : ImageOf m image) where
           let all : fenceBytes (map byteOf output) ≡ fences output = fence-bytes-are-fences (length (on m .fences)) image-few output placed in
           let mine : fenceBytes rest ≡ f = omega (arith, all, ap fenceBytes whole, fences-append put rest, total, count) in
           let small : t < statesOf image = omega (arith, state, state-small (a .input) output (a .input-own) (a .accepted)) in
-          subst (AsOneStream m image given put bytes (length out))
-          (ap (λ (k : ℕ). answerOf (gives rest k t) (length out)) mine ∙ answered (ended rest f t) e)
+          subst₂ (AsOneStream m image given put bytes out)
+          (ap (λ (k : ℕ). answerOf (gives rest k t) (length out)) mine ∙ answered (ended rest f t) e) (left (ended rest f t) e)
           (goes-on rest t (sym is ∙ ap puts whole) small)
 
   -- Two streams lead to the same state exactly when they have the same future.

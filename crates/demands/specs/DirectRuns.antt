@@ -32,6 +32,7 @@ pub record RunDone (number : ℕ) (upstream target stream out : List ℕ) (writt
   pub output-read : StreamIn (take written after) output
   pub right : Right (models .way) (up models) (on models) input output
   -- the numbers, and the rest of the buffer
+  pub size : written ≡ length output
   pub counted : fences ≡ streams.fences output
   pub no-state : state ≡ 0
   pub fits : written ≤ length out

@@ -16,6 +16,7 @@ pub record GenerateDone (number : ℕ) (upstream target out : List ℕ) (written
   pub image : ImageOf models (take written after)
   pub no-fences : fences ≡ 0
   pub no-state : state ≡ 0
+  pub size : length (take written after) ≡ written
   pub fits : written ≤ length out
   pub rest-kept : drop written after ≡ drop written out
 

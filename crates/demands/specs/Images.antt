@@ -9,7 +9,7 @@ use lib.ListN.{length, take}
 use Rattle.ground.specs.Bytes.{at}
 use Rattle.answers.specs.declared.Answer as answers
 use Rattle.answers.specs.declared.Verdict.{Verdict}
-use Rattle.answers.specs.Buffer.{answerWith}
+use Rattle.answers.specs.Buffer.{bufferWith, answerWith}
 use Rattle.answers.specs.Given.{refuses, Delivers}
 use Rattle.operations.specs.Operation.{fenceBytes}
 use Rattle.operations.specs.Alphabet.{accessLetters, letterIn}
@@ -79,13 +79,13 @@ pub record ThreadDone (m : Models) (image : List ℕ) (state : ℕ) (given put :
   pub state-is : state ≡ stateAfter m image input
   pub state-below : state < statesOf image
 
--- The answer to the next block of a thread, where the buffer has this room, is what the one stream gets that all of it is: its further output with
--- an end state, or its refusal, counted from the block's start.
-pub data AsOneStream (m : Models) (image given put block : List ℕ) (room : ℕ) : answers.Answer → Type 0 where
+-- The answer to the next block of a thread, and the buffer after it, are those of the one stream that all of it is: its further output with an end state,
+-- or its refusal, counted from the block's start.
+pub data AsOneStream (m : Models) (image given put block out : List ℕ) : answers.Answer → List ℕ → Type 0 where
   goes-on : (rest : List ℕ) (next : ℕ) → direct (m .way) (up m) (on m) (given ++ block) ≡ puts (put ++ rest) → next < statesOf image
-      → AsOneStream m image given put block room (answerWith rest (fenceBytes rest) next room)
+      → AsOneStream m image given put block out (answerWith rest (fenceBytes rest) next (length out)) (bufferWith rest out)
   stops : (why : Stop) (place : ℕ) → direct (m .way) (up m) (on m) (given ++ block) ≡ refuses (refusalOf why (length given + place))
-      → AsOneStream m image given put block room (answers.Answer.Refused (refusalOf why place))
+      → AsOneStream m image given put block out (answers.Answer.Refused (refusalOf why place)) out
 
 -- the same answer but for the end state, which a direct run does not tell
 abbrev pub endingIn : ℕ → answers.Answer → answers.Answer

@@ -41,6 +41,7 @@ pub record ListDone (input out : List ℕ) (written fences state : ℕ) (after :
   pub text : take written after ≡ listedText models output states row
   pub counted : fences ≡ fenceBytes output
   pub no-state : state ≡ 0
+  pub size : length (take written after) ≡ written
   pub fits : written ≤ length out
   pub rest-kept : drop written after ≡ drop written out
 

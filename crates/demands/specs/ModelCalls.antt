@@ -24,9 +24,9 @@ pub data BuiltInRefused (number room : ℕ) : Refusal → Type 0 where
   too-small : number ≤ 15 → room < length (textOf (builtIn number)) → BuiltInRefused number room Refusal.BufferTooSmall
 
 -- what two texts compare as: the first one's refusal, then the second one's, then how their default tables compare
-pub data ComparedAs (first second : List ℕ) : Compared → Type 0 where
-  first-refused : {why : Refusal} → Told first (refusing why) → ComparedAs first second (Compared.Refused why)
+pub data TextsCompare (first second : List ℕ) : Compared → Type 0 where
+  first-refused : {why : Refusal} → Told first (refusing why) → TextsCompare first second (Compared.Refused why)
   second-refused : {a : Model} {why : Refusal} → Told first (accepting a) → Told second (refusing why)
-      → ComparedAs first second (Compared.Refused why)
+      → TextsCompare first second (Compared.Refused why)
   compares : {a b : Model} {is : Comparison} → Told first (accepting a) → Told second (accepting b) → Compares (a .ppo) (b .ppo) is
-      → ComparedAs first second (Compared.Is is)
+      → TextsCompare first second (Compared.Is is)
