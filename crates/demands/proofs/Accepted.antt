@@ -91,7 +91,8 @@ pub gives-ran : (number : ℕ) (upstream target stream bytes : List ℕ) (fences
     → outcome number upstream target stream ≡ gives bytes fences state → DirectOutput number upstream target stream bytes fences state
 gives-ran number upstream target stream bytes fences state e = by (run-is number upstream target stream) e
   where
-    by : {g : Given} → RunIs number upstream target stream g → g ≡ gives bytes fences state → DirectOutput number upstream target stream bytes fences state
+    by : {g : Given} → RunIs number upstream target stream g → g ≡ gives bytes fences state
+        → DirectOutput number upstream target stream bytes fences state
     by (unopened o) z = differ (cc)
     by (over o l) z = differ (cc)
     by (runs o l (at-4 place s)) z = differ (cc)

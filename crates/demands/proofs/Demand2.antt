@@ -41,7 +41,7 @@ use Rattle.demands.specs.Streams.{StreamIn, Own}
 use Rattle.demands.specs.Opened.{Opened, up, on}
 use Rattle.demands.specs.DirectRuns.{RunDone}
 use Rattle.demands.specs.Generated.{GenerateDone}
-use Rattle.demands.specs.Images.{entryAnswer, ImageOf, stateAfter, SameFuture, Thread, fresh, block, ThreadDone, AsOneStream, endingIn}
+use Rattle.demands.specs.Images.{entryAnswer, MinimalImage, stateAfter, SameFuture, Thread, fresh, block, ThreadDone, AsOneStream, endingIn}
 use Rattle.demands.specs.Listings.{ListDone}
 use Rattle.demands.proofs.Accepted as accepted
 use Rattle.demands.proofs.Delivered.{done-gave, gave-done, gave-bytes}
@@ -63,7 +63,7 @@ pub generate-done : (number : ℕ) (upstream target : List ℕ) {out : List ℕ}
 generate-done number upstream target = generating.image-done number upstream target
 
 -- The machine, of the image's bytes.
-module _ {m : Models} {image : List ℕ} (i : ImageOf m image) where
+module _ {m : Models} {image : List ℕ} (i : MinimalImage m image) where
   -- It answers like the rule, on every stream of its letters, of any length.
   pub image-answers-like-the-rule : AnswersLikeTheRule (m .way) (up m) (on m) (machineOf (up m) (entryAnswer image))
   image-answers-like-the-rule = machine.runs-like-the-rule (m .way) (up m) (on m) (threads.image-few i) (i .described)
@@ -97,7 +97,8 @@ module _ {m : Models} {image : List ℕ} (i : ImageOf m image) where
   -- Two accepted streams lead to the same state exactly when every continuation gets the same further output and refusals: of threads, and so of
   -- single calls.
   pub same-state-exactly-when : {s t n n′ : ℕ} {given given′ put put′ : List ℕ} → Thread image s given put n → Thread image t given′ put′ n′
-      → (v w out out′ : Stream) → StreamIn given v → StreamIn given′ w → run (m .way) (up m) (on m) v ≡ done out → run (m .way) (up m) (on m) w ≡ done out′
+      → (v w out out′ : Stream) → StreamIn given v → StreamIn given′ w
+      → run (m .way) (up m) (on m) v ≡ done out → run (m .way) (up m) (on m) w ≡ done out′
       → (s ≡ t) ↔ SameFuture m v out w out′
   same-state-exactly-when {given = given} {given′ = given′} a b v w out out′ p q e f =
       let c = threads.thread-done i a in
@@ -178,7 +179,7 @@ module _ {input out : List ℕ} {written count state : ℕ} {after : List ℕ} (
   listing-same-state-exactly-when = machine.same-state-exactly-when _ _ _ (accepted.few-targets (listed .opened)) (listed .described)
 
   -- they are the states of the image of the same two models, with the answers that its bytes have,
-  pub listing-is-the-image : {image : List ℕ} → ImageOf (listed .models) image
+  pub listing-is-the-image : {image : List ℕ} → MinimalImage (listed .models) image
       → (listed .states ≡ at image 4)
       × ((s a : ℕ) → s < listed .states → a < lettersOf (up (listed .models)) → listed .row s a ≡ entryAnswer image s a)
   listing-is-the-image i = described-unique _ _ (mealy.same-states _) (listed .described) (i .described)

@@ -45,12 +45,12 @@ use Rattle.image.specs.declared.machine.Header.{Header}
 use Rattle.image.specs.Image.{word, headerOf, imageOf}
 use Rattle.image.proofs.Canonicals.{fence-image, next-image, onward-image}
 use Rattle.generation.specs.Generating.{headerFor, givenBy, blank, MachineGiven, ImageGiven}
-use Rattle.generation.specs.Imaged.{Imaged}
+use Rattle.generation.specs.inner.Imaged.{Imaged}
 use Rattle.generation.proofs.Theorems.{imaged, ups-few, making, laid-out, image-accepted, image-header, image-length}
 use Rattle.generation.proofs.Theorems.{gives-8-exactly-when, gives-9-exactly-when, never-7}
 use Rattle.demands.specs.Opened.{Opened, up, on, OpeningRefused}
 use Rattle.demands.proofs.Opening.{opens-told, told-opens, opened-one, opening-told, told-opening}
-use Rattle.demands.specs.Images.{entryAnswer, ImageOf}
+use Rattle.demands.specs.Images.{entryAnswer, MinimalImage}
 use Rattle.demands.specs.Generated.{GenerateDone}
 use Rattle.demands.proofs.Delivered.{Gave, done-gave}
 
@@ -91,7 +91,7 @@ module _ {number : ℕ} {upstream target image : List ℕ} (call : Imaged number
   states-are = ap (λ (h : Header). h .states) (image-header call)
 
   -- The bytes are the image of the machine of the two models.
-  pub image-of : ImageOf m image
+  pub image-of : MinimalImage m image
   unfolding headerOf
   image-of =
       record {
@@ -111,7 +111,7 @@ module _ {number : ℕ} {upstream target image : List ℕ} (call : Imaged number
 pub data MachineIs (m : Models) : Given → Type 0 where
   crowded : ManySituations (m .way) (up m) (on m) → MachineIs m (refuses Refusal.TooManySituations)
   overfull : (ManySituations (m .way) (up m) (on m) → ⊥) → ManyStates (m .way) (up m) (on m) → MachineIs m (refuses Refusal.TooManyStates)
-  made : {image : List ℕ} → (ManySituations (m .way) (up m) (on m) → ⊥) → (ManyStates (m .way) (up m) (on m) → ⊥) → ImageOf m image
+  made : {image : List ℕ} → (ManySituations (m .way) (up m) (on m) → ⊥) → (ManyStates (m .way) (up m) (on m) → ⊥) → MinimalImage m image
       → MachineIs m (gives image 0 0)
 
 module _ {number : ℕ} {upstream target : List ℕ} {m : Models} (o : Opened number upstream target m) where
@@ -139,10 +139,10 @@ module _ {number : ℕ} {upstream target : List ℕ} {m : Models} (o : Opened nu
         ↔ ((ManySituations (m .way) (upstreamOf (shimBetween m) a) (targetOf (shimBetween m) b) → ⊥)
         × ManyStates (m .way) (upstreamOf (shimBetween m) a) (targetOf (shimBetween m) b))) all-up all-on (gives-9-exactly-when m g given)
 
-    image-given : (bytes : List ℕ) (f s : ℕ) → g ≡ gives bytes f s → ImageOf m bytes
+    image-given : (bytes : List ℕ) (f s : ℕ) → g ≡ gives bytes f s → MinimalImage m bytes
     image-given bytes f s e =
         let call = imaged number upstream target bytes f s (subst (ImageGiven number upstream target) e (given-models .1 given)) in
-        subst (λ (x : Models). ImageOf x bytes) (opened-one (opens-told (call .opens)) o) (image-of call)
+        subst (λ (x : Models). MinimalImage x bytes) (opened-one (opens-told (call .opens)) o) (image-of call)
 
     pub machine-is : MachineIs m g
     machine-is = by (given .outcome) (given .made) (given .gives-it)
@@ -185,7 +185,7 @@ pub unopened-is : {number : ℕ} {upstream target : List ℕ} {why : Refusal} {g
 unopened-is {g = g} o h = subst (λ (x : Opening). GivenOnOpened x MachineGiven g) (told-opening o) h
 
 -- Two images of the same models have the same states, with the same answers, and the same length.
-module _ {m : Models} {first second : List ℕ} (a : ImageOf m first) (b : ImageOf m second) where
+module _ {m : Models} {first second : List ℕ} (a : MinimalImage m first) (b : MinimalImage m second) where
   abbrev rules : Machine Situation ℕ
   rules = shim (m .way) (up m) (on m)
 
@@ -215,7 +215,7 @@ image-done number upstream target {out} {written} {fences} {state} {after} call 
         record {
           models = m;
           opened = o;
-          image = subst (ImageOf m) bytes i;
+          image = subst (MinimalImage m) bytes i;
           no-fences = cc;
           no-state = cc;
           size = gave .size;

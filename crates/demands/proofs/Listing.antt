@@ -14,7 +14,7 @@ use Rattle.shims.specs.Opening.{wayOf, onOpened, Opens}
 use Rattle.shims.proofs.Theorems.{read-written, opens-so}
 use Rattle.runs.specs.Call.{runGiven}
 use Rattle.listing.specs.Listed.{Listed}
-use Rattle.listing.specs.Accepted.{AcceptedInput}
+use Rattle.listing.specs.inner.Accepted.{AcceptedInput}
 use Rattle.listing.proofs.Theorems.{accepted-input}
 use Rattle.demands.specs.Listings.{ListDone}
 use Rattle.demands.proofs.Delivered.{Gave, done-gave}

@@ -43,7 +43,7 @@ use Rattle.image_runs.proofs.Theorems as walks
 use Rattle.demands.specs.Streams.{StreamIn, Own}
 use Rattle.demands.specs.Opened.{Opened, up, on}
 use Rattle.demands.specs.DirectRuns.{StopsAt, Fault6, Accepts}
-use Rattle.demands.specs.Images.{endingIn, entryAnswer, ImageOf, stateAfter, SameFuture, Thread, fresh, block}
+use Rattle.demands.specs.Images.{endingIn, entryAnswer, MinimalImage, stateAfter, SameFuture, Thread, fresh, block}
 use Rattle.demands.specs.Images.{ThreadDone, AsOneStream, goes-on, stops}
 use Rattle.demands.proofs.Accepted.{reads-written, is-right}
 use Rattle.demands.proofs.Delivered.{done-gave}
@@ -165,7 +165,7 @@ below-append n [] t p q = q
 below-append n (Operation.Access k ∷ s) t p q = below-append n s t p q
 below-append n (Operation.Fence f ∷ s) t p q = (p .0, below-append n s t (p .1) q)
 
-module _ {m : Models} {image : List ℕ} (i : ImageOf m image) where
+module _ {m : Models} {image : List ℕ} (i : MinimalImage m image) where
   abbrev ran : Stream → Ran
   ran s = run (m .way) (up m) (on m) s
 

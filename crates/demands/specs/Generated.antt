@@ -8,12 +8,12 @@ use Rattle.answers.specs.declared.Refusal.{Refusal}
 use Rattle.shims.specs.declared.Models.{Models}
 use Rattle.machine.specs.Counted.{ManySituations, ManyStates}
 use Rattle.demands.specs.Opened.{Opened, up, on, OpeningRefused}
-use Rattle.demands.specs.Images.{ImageOf}
+use Rattle.demands.specs.Images.{MinimalImage}
 
 pub record GenerateDone (number : ℕ) (upstream target out : List ℕ) (written fences state : ℕ) (after : List ℕ) : Type 0 where
   pub models : Models
   pub opened : Opened number upstream target models
-  pub image : ImageOf models (take written after)
+  pub image : MinimalImage models (take written after)
   pub no-fences : fences ≡ 0
   pub no-state : state ≡ 0
   pub size : length (take written after) ≡ written
@@ -25,7 +25,7 @@ pub record ImageExceeds (m : Models) (room : ℕ) : Type 0 where
   pub few-situations : ManySituations (m .way) (up m) (on m) → ⊥
   pub few-states : ManyStates (m .way) (up m) (on m) → ⊥
   pub bytes : List ℕ
-  pub image : ImageOf m bytes
+  pub image : MinimalImage m bytes
   pub exceeds : room < length bytes
 
 pub data GenerateRefused (number : ℕ) (upstream target : List ℕ) (room : ℕ) : Refusal → Type 0 where

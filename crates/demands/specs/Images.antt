@@ -41,7 +41,7 @@ entryAnswer image state a =
 
 -- These bytes are the image of the minimal machine of two models: it is accepted, its header has their way, fences and names, and the entries of its
 -- states, as many as its byte 4 says, describe the rule's own machine.
-pub record ImageOf (m : Models) (image : List ℕ) : Type 0 where
+pub record MinimalImage (m : Models) (image : List ℕ) : Type 0 where
   pub accepted : verdictOf image ≡ Verdict.Accepted
   pub way : at image 3 ≡ wayNumber (m .way)
   pub upstream-fences : upstreamFencesOf image ≡ length (up m .fences)
@@ -79,8 +79,8 @@ pub record ThreadDone (m : Models) (image : List ℕ) (state : ℕ) (given put :
   pub state-is : state ≡ stateAfter m image input
   pub state-below : state < statesOf image
 
--- The answer to the next block of a thread, and the buffer after it, are those of the one stream that all of it is: its further output with an end state,
--- or its refusal, counted from the block's start.
+-- The answer to the next block of a thread, and the buffer after it, are those of the one stream that all of it is: its further output with an end
+-- state, or its refusal, counted from the block's start.
 pub data AsOneStream (m : Models) (image given put block out : List ℕ) : answers.Answer → List ℕ → Type 0 where
   goes-on : (rest : List ℕ) (next : ℕ) → direct (m .way) (up m) (on m) (given ++ block) ≡ puts (put ++ rest) → next < statesOf image
       → AsOneStream m image given put block out (answerWith rest (fenceBytes rest) next (length out)) (bufferWith rest out)

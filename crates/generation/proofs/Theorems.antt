@@ -34,7 +34,7 @@ use Rattle.layout.specs.Barred.{verdictOf}
 use Rattle.image.specs.Image.{headerOf, rowsOf, Canonical}
 use Rattle.image.proofs.Theorems.{read-written-accepted, read-written-header, read-written-rows, written-length}
 use Rattle.generation.specs.Generating.{headerFor, givenBy, blank, MachineGiven, ImageGiven}
-use Rattle.generation.specs.Imaged.{Imaged}
+use Rattle.generation.specs.inner.Imaged.{Imaged}
 use Rattle.generation.proofs.Canonicals.{name-read, canonical}
 
 -- A call that gives bytes has read its way and its two texts, and has made their machine; the bytes are its image.

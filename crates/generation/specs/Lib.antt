@@ -1,3 +1,2 @@
 pub mod Generating
-pub mod Imaged
 pub mod inner

@@ -1,2 +1,4 @@
--- What serves the crate's private functions and their proofs alone. A reader need not believe it.
+-- What serves the crate's private functions and their proofs alone, and what a call has done that gives something (Imaged), which `demands` says to
+-- readers. A reader need not believe it.
 pub mod Small
+pub mod Imaged

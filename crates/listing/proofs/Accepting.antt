@@ -30,7 +30,7 @@ use Rattle.listing.specs.Shape.{Parts, shape}
 use Rattle.listing.specs.Printed.{nextState}
 use Rattle.listing.specs.Listed.{ruleOf, listingOf, MachineListed, crowded, overfull, made, ModelsListed, halts, runs}
 use Rattle.listing.specs.Listed.{PartsListed, ShapeListed, shapeless, shaped, Listed, over, within}
-use Rattle.listing.specs.Accepted.{AcceptedInput}
+use Rattle.listing.specs.inner.Accepted.{AcceptedInput}
 use Rattle.listing.specs.inner.Limits.{Limited}
 use Rattle.listing.proofs.Direct.{Short, run-short}
 

@@ -7,7 +7,7 @@ use native.Mathlib.Omega.{arith}
 use lib.ListN.{length}
 use Rattle.answers.specs.Given.{gives}
 use Rattle.listing.specs.Listed.{Listed}
-use Rattle.listing.specs.Accepted.{AcceptedInput}
+use Rattle.listing.specs.inner.Accepted.{AcceptedInput}
 use Rattle.listing.proofs.Accepting.{by-length, within-limits, limited}
 use Rattle.listing.proofs.Longest.{listing-length}
 
