@@ -46,6 +46,7 @@ use Rattle.listing.specs.Shape.{Parts}
 use Rattle.listing.specs.Listed as listed
 use Rattle.listing.specs.Listed.{MachineListed, ModelsListed, PartsListed, ShapeListed, Listed}
 use Rattle.listing.proofs.Theorems.{longest-listing}
+use Rattle.demands.specs.Sizes.{textOut, runOut, imageRunOut, imageOut, listOut}
 use Rattle.demands.specs.Opened.{up, on, OpeningRefused, no-way, upstream-refused, target-refused}
 use Rattle.demands.proofs.Accepted.{gives-ran}
 use Rattle.demands.proofs.Delivered.{never-too-small}
@@ -86,19 +87,19 @@ verdict-not-7 image = by (ltb limit (length image))
     by true e = differ (cc)
     by false e = stages-not-7 (lowestWrong image) (lowestBarred image) e
 
-accepted-short : (image : List ℕ) → verdictOf image ≡ Verdict.Accepted → length image ≤ 7168
+accepted-short : (image : List ℕ) → verdictOf image ≡ Verdict.Accepted → length image ≤ imageOut
 unfolding verdictOf
 accepted-short image = by (ltb limit (length image)) refl
   where
     by : (b : Bool) → ltb limit (length image) ≡ b
-        → cond b (Verdict.Refused Refusal.OverLimit) (stages (lowestWrong image) (lowestBarred image)) ≡ Verdict.Accepted → length image ≤ 7168
+        → cond b (Verdict.Refused Refusal.OverLimit) (stages (lowestWrong image) (lowestBarred image)) ≡ Verdict.Accepted → length image ≤ imageOut
     by true e z = differ (cc)
     by false e z = omega (arith, ltb-false limit (length image) e)
 
 -- SHIM_RUN_OUT: 8,191 bytes are enough for a direct run.
 pub run-out : (number : ℕ) (upstream target stream : List ℕ) {out : List ℕ} {r : Answer} {after : List ℕ}
-    → Delivers (outcome number upstream target stream) out r after → 8191 ≤ length out → r ≡ Answer.Refused Refusal.BufferTooSmall → ⊥
-run-out number upstream target stream call = never-too-small call 8191 (none (run-is number upstream target stream)) short
+    → Delivers (outcome number upstream target stream) out r after → runOut ≤ length out → r ≡ Answer.Refused Refusal.BufferTooSmall → ⊥
+run-out number upstream target stream call = never-too-small call runOut (none (run-is number upstream target stream)) short
   where
     none : {g : Given} → RunIs number upstream target stream g → g ≡ refuses Refusal.BufferTooSmall → ⊥
     none (running.unopened {why = why} o) e = opening-not-7 o (cc)
@@ -108,7 +109,7 @@ run-out number upstream target stream call = never-too-small call 8191 (none (ru
     none (running.runs o l (at-5 place s)) e = differ (cc)
     none (running.runs o l (at-6 place s)) e = differ (cc)
 
-    short : (bytes : List ℕ) (f s : ℕ) → outcome number upstream target stream ≡ gives bytes f s → length bytes ≤ 8191
+    short : (bytes : List ℕ) (f s : ℕ) → outcome number upstream target stream ≡ gives bytes f s → length bytes ≤ runOut
     short bytes f s e =
         let ran = gives-ran number upstream target stream bytes f s e in
         let m = ran .models in
@@ -117,9 +118,9 @@ run-out number upstream target stream call = never-too-small call 8191 (none (ru
 
 -- SHIM_IMAGE_RUN_OUT: 8,192 for a run over any image.
 pub image-run-out : (image : List ℕ) (start : ℕ) (stream : List ℕ) {out : List ℕ} {r : Answer} {after : List ℕ}
-    → Delivers (runOver image start stream) out r after → 8192 ≤ length out → r ≡ Answer.Refused Refusal.BufferTooSmall → ⊥
+    → Delivers (runOver image start stream) out r after → imageRunOut ≤ length out → r ≡ Answer.Refused Refusal.BufferTooSmall → ⊥
 unfolding runOver
-image-run-out image start stream call = never-too-small call 8192 none short
+image-run-out image start stream call = never-too-small call imageRunOut none short
   where
     by-walk : (w : Walked) → outcomeOf w ≡ refuses Refusal.BufferTooSmall → ⊥
     by-walk (ended bytes f t) e = differ (cc)
@@ -142,16 +143,16 @@ image-run-out image start stream call = never-too-small call 8192 none short
     none : runOver image start stream ≡ refuses Refusal.BufferTooSmall → ⊥
     none e = by-verdict (verdictOf image) refl e
 
-    short : (bytes : List ℕ) (f s : ℕ) → runOver image start stream ≡ gives bytes f s → length bytes ≤ 8192
+    short : (bytes : List ℕ) (f s : ℕ) → runOver image start stream ≡ gives bytes f s → length bytes ≤ imageRunOut
     short bytes f s e =
         let walk = gives-walk image start stream e in
         omega (arith, longest-walk image start stream (walk .ends-so), walk .within)
 
 -- SHIM_IMAGE_LIMIT: 7,168 for an image that is generated,
 pub image-out : (number : ℕ) (upstream target : List ℕ) {out : List ℕ} {r : Answer} {after : List ℕ}
-    → Answers (ImageGiven number upstream target) out r after → 7168 ≤ length out → r ≡ Answer.Refused Refusal.BufferTooSmall → ⊥
+    → Answers (ImageGiven number upstream target) out r after → imageOut ≤ length out → r ≡ Answer.Refused Refusal.BufferTooSmall → ⊥
 image-out number upstream target call =
-    never-too-small (call .delivered) 7168 (none is) (λ bytes f s e. short is e)
+    never-too-small (call .delivered) imageOut (none is) (λ bytes f s e. short is e)
   where
     is : GenerateIs number upstream target (call .given)
     is = generate-is number upstream target (call .given) (call .right)
@@ -162,7 +163,7 @@ image-out number upstream target call =
     none (opens o (overfull f h)) e = differ (cc)
     none (opens o (made f h i)) e = differ (cc)
 
-    short : {g : Given} → GenerateIs number upstream target g → {bytes : List ℕ} {f s : ℕ} → g ≡ gives bytes f s → length bytes ≤ 7168
+    short : {g : Given} → GenerateIs number upstream target g → {bytes : List ℕ} {f s : ℕ} → g ≡ gives bytes f s → length bytes ≤ imageOut
     short (generating.unopened o) e = differ (cc)
     short (opens o (crowded h)) e = differ (cc)
     short (opens o (overfull f h)) e = differ (cc)
@@ -171,11 +172,11 @@ image-out number upstream target call =
         omega (arith, accepted-short image (i .accepted), ap length same)
 
 -- and for one that is read and written back.
-pub image-back-out : (image : List ℕ) {out header : List ℕ} {r : Answer} {after : List ℕ} → Rewrites image out header r after → 7168 ≤ length out
+pub image-back-out : (image : List ℕ) {out header : List ℕ} {r : Answer} {after : List ℕ} → Rewrites image out header r after → imageOut ≤ length out
     → r ≡ Answer.Refused Refusal.BufferTooSmall → ⊥
 unfolding writtenBack
 image-back-out image call =
-    never-too-small (call .delivered) 7168 (λ e. none (verdictOf image) refl e) (λ bytes f s e. short (verdictOf image) refl e)
+    never-too-small (call .delivered) imageOut (λ e. none (verdictOf image) refl e) (λ bytes f s e. short (verdictOf image) refl e)
   where
     none : (v : Verdict) → verdictOf image ≡ v → unlessRefused v (gives image 0 0) ≡ refuses Refusal.BufferTooSmall → ⊥
     none (Verdict.Refused why) a e =
@@ -184,7 +185,7 @@ image-back-out image call =
     none Verdict.Accepted a e = differ (cc)
 
     short : (v : Verdict) → verdictOf image ≡ v → {bytes : List ℕ} {f s : ℕ} → unlessRefused v (gives image 0 0) ≡ gives bytes f s
-        → length bytes ≤ 7168
+        → length bytes ≤ imageOut
     short (Verdict.Refused why) a e = differ (cc)
     short Verdict.Accepted a {bytes = bytes} e =
         let same : image ≡ bytes = cc in
@@ -242,15 +243,15 @@ listed-not-7 (listed.over l) e = differ (cc)
 listed-not-7 (listed.within l h) e = shape-not-7 h e
 
 -- SHIM_LIST_OUT: 67,261 for a listing.
-pub list-out : (input : List ℕ) {out : List ℕ} {r : Answer} {after : List ℕ} → Answers (Listed input) out r after → 67261 ≤ length out
+pub list-out : (input : List ℕ) {out : List ℕ} {r : Answer} {after : List ℕ} → Answers (Listed input) out r after → listOut ≤ length out
     → r ≡ Answer.Refused Refusal.BufferTooSmall → ⊥
-list-out input call = never-too-small (call .delivered) 67261 (λ e. listed-not-7 (call .right) e)
+list-out input call = never-too-small (call .delivered) listOut (λ e. listed-not-7 (call .right) e)
     (λ bytes f s e. longest-listing (subst (Listed input) e (call .right)))
 
--- SHIM_TEXT_OUT: 739 for a model's text that is read and written back,
-pub text-out : (text : List ℕ) {out : List ℕ} {r : Answer} {after : List ℕ} → Delivers (backGiven text) out r after → 739 ≤ length out
+-- SHIM_TEXT_OUT: textOut for a model's text that is read and written back,
+pub text-out : (text : List ℕ) {out : List ℕ} {r : Answer} {after : List ℕ} → Delivers (backGiven text) out r after → textOut ≤ length out
     → r ≡ Answer.Refused Refusal.BufferTooSmall → ⊥
-text-out text call = never-too-small call 739 (λ e. none (reading text .verdict) refl e) (λ bytes f s e. short (reading text .verdict) refl e)
+text-out text call = never-too-small call textOut (λ e. none (reading text .verdict) refl e) (λ bytes f s e. short (reading text .verdict) refl e)
   where
     none : (v : Verdict) → reading text .verdict ≡ v → unlessRefused v (gives text 0 0) ≡ refuses Refusal.BufferTooSmall → ⊥
     none (Verdict.Refused why) a e =
@@ -258,21 +259,21 @@ text-out text call = never-too-small call 739 (λ e. none (reading text .verdict
         told-not-7 (told text) (a ∙ ap Verdict.Refused seven)
     none Verdict.Accepted a e = differ (cc)
 
-    by-told : {r : Reading} → Told text r → r .verdict ≡ Verdict.Accepted → length text ≤ 739
+    by-told : {r : Reading} → Told text r → r .verdict ≡ Verdict.Accepted → length text ≤ textOut
     by-told (over l) e = differ (cc)
     by-told (departs l n h) e = differ (cc)
     by-told (repeated d k l f t s) e = differ (cc)
     by-told (accepted d l f t s) e = omega (arith, text-short d f, ap length t)
 
     short : (v : Verdict) → reading text .verdict ≡ v → {bytes : List ℕ} {f s : ℕ} → unlessRefused v (gives text 0 0) ≡ gives bytes f s
-        → length bytes ≤ 739
+        → length bytes ≤ textOut
     short (Verdict.Refused why) a e = differ (cc)
     short Verdict.Accepted a {bytes = bytes} e =
         let same : text ≡ bytes = cc in
         omega (arith, by-told (told text) a, ap length same)
 
 -- and for a built-in model's: one computed test over all of them.
-all-short : every (λ (d : Description). leb (length (textOf d)) 739) builtIns ≡ true
+all-short : every (λ (d : Description). leb (length (textOf d)) textOut) builtIns ≡ true
 unfolding builtIns fourRows under tableIn table
 all-short = refl
 
@@ -280,20 +281,20 @@ both : (b : Bool) {x : Bool} → cond b x false ≡ true → (b ≡ true) × (x 
 both true e = (refl, e)
 both false e = true-false (sym e)
 
-each-short : (ds : List Description) → every (λ (d : Description). leb (length (textOf d)) 739) ds ≡ true → (n : ℕ) (default : Description)
-    → length (textOf default) ≤ 739 → length (textOf (getD ds n default)) ≤ 739
+each-short : (ds : List Description) → every (λ (d : Description). leb (length (textOf d)) textOut) ds ≡ true → (n : ℕ) (default : Description)
+    → length (textOf default) ≤ textOut → length (textOf (getD ds n default)) ≤ textOut
 each-short [] e n default h = h
-each-short (d ∷ ds) e zero default h = leb-true (length (textOf d)) 739 (both (leb (length (textOf d)) 739) e .0)
-each-short (d ∷ ds) e (suc n) default h = each-short ds (both (leb (length (textOf d)) 739) e .1) n default h
+each-short (d ∷ ds) e zero default h = leb-true (length (textOf d)) textOut (both (leb (length (textOf d)) textOut) e .0)
+each-short (d ∷ ds) e (suc n) default h = each-short ds (both (leb (length (textOf d)) textOut) e .1) n default h
 
-built-short : (n : ℕ) → length (textOf (builtIn n)) ≤ 739
+built-short : (n : ℕ) → length (textOf (builtIn n)) ≤ textOut
 unfolding builtIn fourRows tableIn table
 built-short n = each-short builtIns all-short n (model "" none []) (omega arith)
 
-pub builtin-out : (number : ℕ) {out : List ℕ} {r : Answer} {after : List ℕ} → Delivers (builtInGiven number) out r after → 739 ≤ length out
+pub builtin-out : (number : ℕ) {out : List ℕ} {r : Answer} {after : List ℕ} → Delivers (builtInGiven number) out r after → textOut ≤ length out
     → r ≡ Answer.Refused Refusal.BufferTooSmall → ⊥
 unfolding builtInReading
-builtin-out number call = never-too-small call 739 (no-7 (ltb 15 number)) (λ bytes f s e. short (ltb 15 number) e)
+builtin-out number call = never-too-small call textOut (no-7 (ltb 15 number)) (λ bytes f s e. short (ltb 15 number) e)
   where
     given : Bool → Given
     given b = textGiven (cond b (refusing Refusal.OutOfRange) (accepting (held (builtIn number))) .verdict) (textOf (builtIn number))
@@ -302,7 +303,7 @@ builtin-out number call = never-too-small call 739 (no-7 (ltb 15 number)) (λ by
     no-7 true e = differ (cc)
     no-7 false e = differ (cc)
 
-    short : (b : Bool) {bytes : List ℕ} {f s : ℕ} → given b ≡ gives bytes f s → length bytes ≤ 739
+    short : (b : Bool) {bytes : List ℕ} {f s : ℕ} → given b ≡ gives bytes f s → length bytes ≤ textOut
     short true e = differ (cc)
     short false {bytes = bytes} e =
         let same : textOf (builtIn number) ≡ bytes = cc in

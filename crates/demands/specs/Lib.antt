@@ -7,3 +7,4 @@ pub mod Listings
 pub mod Border
 pub mod ImageCalls
 pub mod ModelCalls
+pub mod Sizes
