@@ -23,22 +23,24 @@ use Rattle.shims.specs.Opening.{wayOf, openedBy, opened, GivenOnOpened}
 use Rattle.shims.proofs.Theorems.{read-written, opens, opens-so}
 use Rattle.runs.specs.Bytes.{puts, direct}
 use Rattle.runs.specs.Call.{runGiven}
-use Rattle.mealy.proofs.Unique.{equal, not-more}
+use Rattle.mealy.specs.Runs.{Answer, Same}
+use Rattle.mealy.specs.Arrivals.{AtMost, Described}
+use Rattle.mealy.proofs.Unique.{equal, same-states, not-more, described-unique}
 use Rattle.machine.specs.Counted.{ManySituations, ManyStates}
 use Rattle.machine.proofs.Counting.{many-situations, many-states}
 use Rattle.machine.proofs.Determined.{too-few}
 use Rattle.listing.specs.Shape.{Parts, shape}
 use Rattle.listing.specs.Listed as listed
-use Rattle.listing.specs.Listed.{ruleOf, MachineListed, crowded, overfull, made, ModelsListed, halts, runs}
+use Rattle.listing.specs.Listed.{ruleOf, listedText, MachineListed, crowded, overfull, made, ModelsListed, halts, runs}
 use Rattle.listing.specs.Listed.{PartsListed, ShapeListed, shaped, Listed, over, within}
 use Rattle.listing.proofs.Determined.{one-listing}
 use Rattle.demands.specs.Opened.{up, on}
 use Rattle.demands.specs.DirectRuns as direct-runs
 use Rattle.demands.specs.DirectRuns.{Accepts, StreamRefused, no-operation, no-such-fence, no-fence-will-do}
 use Rattle.demands.specs.Listings.{ListShaped, ListOpened, ListRan, ListRefused, over-limit, shapeless, opening, at-stream}
-use Rattle.demands.specs.Listings.{situations, states, too-small}
+use Rattle.demands.specs.Listings.{situations, states, ListExceeds, too-small}
 use Rattle.demands.proofs.Accepted.{few-targets}
-use Rattle.demands.proofs.Delivered.{Withheld, refused, exceeds}
+use Rattle.demands.proofs.Delivered.{Withheld, refused, exceeds, refused-as}
 use Rattle.demands.proofs.Direct.{DirectIs, puts-out, at-4, at-5, at-6, direct-is, is-direct}
 use Rattle.demands.proofs.Opening.{opens-told, told-opens, opening-told, told-opening}
 
@@ -70,38 +72,61 @@ module _ (m : Models) (stream : List ℕ) where
   is-stream (goes-on l a) = simp (le-ltb 4096 (length stream) l) (is-direct m stream (puts-out a))
 
 runs-told : {input : List ℕ} {p : Parts} {m : Models} → ListOpened input p m → {g : Given} → StreamIs m (p .stream) g → {output : List ℕ}
-    → g ≡ puts output → ListRan input m
+    → g ≡ puts output → (r : ListRan input m) × (output ≡ map byteOf (r .output))
 runs-told o (stops s) e = differ (cc)
-runs-told {p = p} o (goes-on {output = output} l a) e = record { parts = p; opens = o; short = l; output = output; accepts = a }
+runs-told {p = p} o (goes-on {output = output} l a) e = (record { parts = p; opens = o; short = l; output = output; accepts = a }, cc)
+
+-- where the machine of an accepted stream's models has at most so many, 8 and 9 do not hold of them
+module _ {input : List ℕ} {m : Models} (r : ListRan input m) where
+  few : length (on m .fences) ≤ 16
+  few = few-targets (r .opens .opened)
+
+  not-crowded : AtMost (ruleOf m) _≡_ 4096 → ManySituations (m .way) (up m) (on m) → ⊥
+  not-crowded f z = not-more (ruleOf m) _≡_ equal 4096 f (many-situations (m .way) (up m) (on m) few 4096 .1 z)
+
+  not-overfull : {k : ℕ} {row : ℕ → ℕ → Answer ℕ ℕ} → k ≤ 255 → Described (ruleOf m) (Same (ruleOf m)) k row
+      → ManyStates (m .way) (up m) (on m) → ⊥
+  not-overfull l d z = too-few (ruleOf m) d l (many-states (m .way) (up m) (on m) few .1 z)
 
 module _ {input : List ℕ} {room : ℕ} where
-  as-told : {v w : Refusal} → ListRefused input room v → refuses v ≡ refuses w → ListRefused input room w
-  as-told {v} {w} h e =
-      let same : v ≡ w = cc in
-      subst (ListRefused input room) same h
-
-  -- a refusal that the machine's stage gives; the stream's; that of the texts; of the shape; and of the whole
-
-  machine-told : {m : Models} → ListRan input m → {output : List ℕ} {g : Given} → MachineListed m output g → {why : Refusal} → g ≡ refuses why
+  as-told : {v : Refusal} → ListRefused input room v → {g : Given} → g ≡ refuses v → {why : Refusal} → Withheld g room why
       → ListRefused input room why
-  machine-told {m} r (crowded h) e = as-told (situations r (many-situations (m .way) (up m) (on m) (few-targets (r .opens .opened)) 4096 .0 h)) e
-  machine-told {m} r (overfull f h) e =
-      let few = few-targets (r .opens .opened) in
-      as-told (states r (λ z. not-more (ruleOf m) _≡_ equal 4096 f (many-situations (m .way) (up m) (on m) few 4096 .1 z))
-      (many-states (m .way) (up m) (on m) few .0 h)) e
-  machine-told r (made f k d) e = differ (cc)
+  as-told h e w = subst (ListRefused input room) (refused-as e w) h
+
+  -- what the machine's stage withholds; the stream's; that of the texts; of the shape; and of the whole
+
+  machine-told : {m : Models} (r : ListRan input m) {g : Given} → MachineListed m (map byteOf (r .output)) g → {why : Refusal} → Withheld g room why
+      → ListRefused input room why
+  machine-told {m} r (crowded h) w = as-told (situations r (many-situations (m .way) (up m) (on m) (few r) 4096 .0 h)) refl w
+  machine-told {m} r (overfull f h) w = as-told (states r (not-crowded r f) (many-states (m .way) (up m) (on m) (few r) .0 h)) refl w
+  machine-told r (made f l d) (refused e) = differ (cc)
+  machine-told {m} r (made {k = k} {row = row} f l d) (exceeds {bytes = bytes} e x) =
+      let same : listedText m (map byteOf (r .output)) k row ≡ bytes = cc in
+      too-small r
+      (record {
+        few-situations = not-crowded r f;
+        few-states = not-overfull r l d;
+        states = k;
+        row = row;
+        described = d;
+        exceeds = omega (arith, x, ap length same);
+      })
 
   module _ {p : Parts} {m : Models} (o : ListOpened input p m) where
-    halts-told : {g : Given} → StreamIs m (p .stream) g → {why : Refusal} → g ≡ refuses why → ListRefused input room why
-    halts-told (stops s) e = as-told (at-stream o s) e
-    halts-told (goes-on l a) e = differ (cc)
+    halts-told : {g : Given} → StreamIs m (p .stream) g → {v why : Refusal} → g ≡ refuses v → Withheld (refuses v) room why
+        → ListRefused input room why
+    halts-told (stops s) e w = as-told (at-stream o s) (sym e) w
+    halts-told (goes-on l a) e w = differ (cc)
 
-    models-told : {g : Given} → ModelsListed m (p .stream) g → {why : Refusal} → g ≡ refuses why → ListRefused input room why
-    models-told (halts r) e = halts-told (stream-is m (p .stream)) (r ∙ e)
-    models-told (runs r h) e = machine-told (runs-told o (stream-is m (p .stream)) r) h e
+    models-told : {g : Given} → ModelsListed m (p .stream) g → {why : Refusal} → Withheld g room why → ListRefused input room why
+    models-told (halts r) w = halts-told (stream-is m (p .stream)) r w
+    models-told {g} (runs r h) w =
+        let ran = runs-told o (stream-is m (p .stream)) r in
+        machine-told (ran .0) (subst (λ (x : List ℕ). MachineListed m x g) (ran .1) h) w
 
-  parts-told : {p : Parts} → ListShaped input p → {g : Given} → PartsListed p g → {why : Refusal} → g ≡ refuses why → ListRefused input room why
-  parts-told {p} s {g} h {why} e =
+  parts-told : {p : Parts} → ListShaped input p → {g : Given} → PartsListed p g → {why : Refusal} → Withheld g room why
+      → ListRefused input room why
+  parts-told {p} s {g} h {why} w =
       by (call .verdict) refl (subst (λ (r : WayRead). Right (openedBy r (p .upstream) (p .target))) (sym (read-written (p .way))) h)
     where
       Right : Opening → Type 0
@@ -111,23 +136,19 @@ module _ {input : List ℕ} {room : ℕ} where
       call = opened (wayNumber (p .way)) (p .upstream) (p .target)
 
       by : (v : Verdict) → call .verdict ≡ v → GivenUnless v (λ (x : Given). ModelsListed (call .models) (p .stream) x) g → ListRefused input room why
-      by (Verdict.Refused is) v x = as-told (opening s (opening-told (wayNumber (p .way)) (p .upstream) (p .target) v)) (sym x ∙ e)
+      by (Verdict.Refused is) v x = as-told (opening s (opening-told (wayNumber (p .way)) (p .upstream) (p .target) v)) x w
       by Verdict.Accepted v x =
-          models-told (record { shape-is = s; opened = opens-told (opens (wayOf (wayNumber (p .way))) (p .upstream) (p .target) v) }) x e
+          models-told (record { shape-is = s; opened = opens-told (opens (wayOf (wayNumber (p .way))) (p .upstream) (p .target) v) }) x w
 
-  shape-told : length input ≤ 32768 → {q : Option Parts} → shape input ≡ q → {g : Given} → ShapeListed q g → {why : Refusal} → g ≡ refuses why
+  shape-told : length input ≤ 32768 → {q : Option Parts} → shape input ≡ q → {g : Given} → ShapeListed q g → {why : Refusal} → Withheld g room why
       → ListRefused input room why
-  shape-told l s listed.shapeless e = as-told (shapeless l s) e
-  shape-told l s (shaped h) e = parts-told (record { within = l; shaped = s }) h e
-
-  listed-told : {g : Given} → Listed input g → {why : Refusal} → g ≡ refuses why → ListRefused input room why
-  listed-told (over l) e = as-told (over-limit l) e
-  listed-told (within l h) e = shape-told l refl h e
+  shape-told l s listed.shapeless w = as-told (shapeless l s) refl w
+  shape-told l s (shaped h) w = parts-told (record { within = l; shaped = s }) h w
 
   -- What a call withholds is refused as 01 says,
   pub withheld-listing : {g : Given} → Listed input g → {why : Refusal} → Withheld g room why → ListRefused input room why
-  withheld-listing h (refused e) = listed-told h e
-  withheld-listing h (exceeds e l) = too-small (subst (Listed input) e h) l
+  withheld-listing (over l) w = as-told (over-limit l) refl w
+  withheld-listing (within l h) w = shape-told l refl h w
 
 -- the same stages from what 01 says of the input: each gives its refusal, or goes on to what the next one gives
 
@@ -150,15 +171,25 @@ parts-given {p} {g = g} (shaped {p = r} h) e =
     subst (λ (x : Parts). PartsListed x g) same h
 
 -- the texts' stage goes by what the way's number and the texts open
+opens-parts : (p : Parts) {x : Opening} → opened (wayNumber (p .way)) (p .upstream) (p .target) ≡ x
+    → openedBy (WayRead.Is (p .way)) (p .upstream) (p .target) ≡ x
+opens-parts p e = ap (λ (r : WayRead). openedBy r (p .upstream) (p .target)) (sym (read-written (p .way))) ∙ e
+
 opening-given : {input : List ℕ} {p : Parts} {g : Given} → Listed input g → ListShaped input p → {x : Opening}
     → opened (wayNumber (p .way)) (p .upstream) (p .target) ≡ x → GivenOnOpened x (λ (m : Models). ModelsListed m (p .stream)) g
 opening-given {p = p} {g = g} h s e =
-    subst (λ (x : Opening). GivenOnOpened x (λ (m : Models). ModelsListed m (p .stream)) g)
-    (ap (λ (r : WayRead). openedBy r (p .upstream) (p .target)) (sym (read-written (p .way))) ∙ e)
+    subst (λ (x : Opening). GivenOnOpened x (λ (m : Models). ModelsListed m (p .stream)) g) (opens-parts p e)
     (parts-given (shape-given h (s .within)) (s .shaped))
 
 models-given : {input : List ℕ} {p : Parts} {m : Models} {g : Given} → Listed input g → ListOpened input p m → ModelsListed m (p .stream) g
 models-given h o = opening-given h (o .shape-is) (opens-so (told-opens (o .opened)))
+
+listed-models : {input : List ℕ} {p : Parts} {m : Models} {g : Given} → ListOpened input p m → ModelsListed m (p .stream) g → Listed input g
+listed-models {p = p} {g = g} o h =
+    within (o .shape-is .within)
+    (subst (λ (q : Option Parts). ShapeListed q g) (sym (o .shape-is .shaped))
+    (shaped (subst (λ (x : Opening). GivenOnOpened x (λ (m : Models). ModelsListed m (p .stream)) g)
+    (sym (opens-parts p (opens-so (told-opens (o .opened))))) h)))
 
 stopped-given : {m : Models} {stream : List ℕ} {g : Given} {why : Refusal} → ModelsListed m stream g → runGiven m stream ≡ refuses why
     → g ≡ refuses why
@@ -177,21 +208,40 @@ machine-given {m} {g = g} {output = output} (runs {output = other} r h) e =
     let same : other ≡ output = cc in
     subst (λ (x : List ℕ). MachineListed m x g) same h
 
-ran-given : {input : List ℕ} {m : Models} {g : Given} → Listed input g → (r : ListRan input m) → MachineListed m (map byteOf (r .output)) g
-ran-given {m = m} h r =
-    machine-given (models-given h (r .opens)) (is-stream m (r .parts .stream) (goes-on (r .short) (r .accepts)))
+module _ {input : List ℕ} {m : Models} (r : ListRan input m) where
+  runs-so : runGiven m (r .parts .stream) ≡ puts (map byteOf (r .output))
+  runs-so = is-stream m (r .parts .stream) (goes-on (r .short) (r .accepts))
 
-module _ {m : Models} (few : length (on m .fences) ≤ 16) {output : List ℕ} where
-  gives-8 : {g : Given} → MachineListed m output g → ManySituations (m .way) (up m) (on m) → g ≡ refuses Refusal.TooManySituations
-  gives-8 (crowded h) z = refl
-  gives-8 (overfull f h) z = absurd (not-more (ruleOf m) _≡_ equal 4096 f (many-situations (m .way) (up m) (on m) few 4096 .1 z))
-  gives-8 (made f k d) z = absurd (not-more (ruleOf m) _≡_ equal 4096 f (many-situations (m .way) (up m) (on m) few 4096 .1 z))
+  ran-given : {g : Given} → Listed input g → MachineListed m (map byteOf (r .output)) g
+  ran-given h = machine-given (models-given h (r .opens)) runs-so
 
-  gives-9 : {g : Given} → MachineListed m output g → (ManySituations (m .way) (up m) (on m) → ⊥) → ManyStates (m .way) (up m) (on m)
+  gives-8 : {g : Given} → Listed input g → ManySituations (m .way) (up m) (on m) → g ≡ refuses Refusal.TooManySituations
+  gives-8 h z = by (ran-given h)
+    where
+      by : {g : Given} → MachineListed m (map byteOf (r .output)) g → g ≡ refuses Refusal.TooManySituations
+      by (crowded x) = refl
+      by (overfull f x) = absurd (not-crowded r f z)
+      by (made f l d) = absurd (not-crowded r f z)
+
+  gives-9 : {g : Given} → Listed input g → (ManySituations (m .way) (up m) (on m) → ⊥) → ManyStates (m .way) (up m) (on m)
       → g ≡ refuses Refusal.TooManyStates
-  gives-9 (crowded h) n z = absurd (n (many-situations (m .way) (up m) (on m) few 4096 .0 h))
-  gives-9 (overfull f h) n z = refl
-  gives-9 (made f k d) n z = absurd (too-few (ruleOf m) d k (many-states (m .way) (up m) (on m) few .1 z))
+  gives-9 h n z = by (ran-given h)
+    where
+      by : {g : Given} → MachineListed m (map byteOf (r .output)) g → g ≡ refuses Refusal.TooManyStates
+      by (crowded x) = absurd (n (many-situations (m .way) (up m) (on m) (few r) 4096 .0 x))
+      by (overfull f x) = refl
+      by (made f l d) = absurd (not-overfull r l d z)
+
+  -- 7: two machines that describe the rule have as many states, and what an input is listed as is determined
+  gives-7 : {room : ℕ} {g : Given} → Listed input g → ListExceeds m (r .output) room → Withheld g room Refusal.BufferTooSmall
+  gives-7 {room} h x = by h (ran-given h)
+    where
+      by : {g : Given} → Listed input g → MachineListed m (map byteOf (r .output)) g → Withheld g room Refusal.BufferTooSmall
+      by h (crowded z) = absurd (x .few-situations (many-situations (m .way) (up m) (on m) (few r) 4096 .0 z))
+      by h (overfull f z) = absurd (x .few-states (many-states (m .way) (up m) (on m) (few r) .0 z))
+      by h (made f l d) =
+          let same = described-unique (ruleOf m) (Same (ruleOf m)) (same-states (ruleOf m)) d (x .described) .0 in
+          exceeds (one-listing h (listed-models (r .opens) (runs runs-so (made f (omega (arith, l, same)) (x .described))))) (x .exceeds)
 
 -- and what 01 refuses is withheld.
 pub listing-withheld : {input : List ℕ} {room : ℕ} {g : Given} → Listed input g → {why : Refusal} → ListRefused input room why → Withheld g room why
@@ -199,6 +249,6 @@ listing-withheld h (over-limit l) = refused (over-given h l)
 listing-withheld h (shapeless l s) = refused (shapeless-given (shape-given h l) s)
 listing-withheld h (opening s o) = refused (opening-given h s (told-opening o))
 listing-withheld h (at-stream {p = p} {m = m} o s) = refused (stopped-given (models-given h o) (is-stream m (p .stream) (stops s)))
-listing-withheld h (situations r z) = refused (gives-8 (few-targets (r .opens .opened)) (ran-given h r) z)
-listing-withheld h (states r n z) = refused (gives-9 (few-targets (r .opens .opened)) (ran-given h r) n z)
-listing-withheld h (too-small t l) = exceeds (one-listing h t) l
+listing-withheld h (situations r z) = refused (gives-8 r h z)
+listing-withheld h (states r n z) = refused (gives-9 r h n z)
+listing-withheld h (too-small r x) = gives-7 r h x

@@ -5,12 +5,11 @@
 -- the earliest of 4, 5, 6 in the stream; 8; 9; 7 last."
 use Prim.Native.Nat.{ℕ, _<_, _≤_}
 use mathlib.Core.Path.{_≡_}
-use mathlib.Core.List.{List}
+use mathlib.Core.List.{List, map}
 use mathlib.Core.Option.{none, some}
 use lib.ListN.{length, take, drop}
 use Rattle.answers.specs.declared.Refusal.{Refusal}
-use Rattle.answers.specs.Given.{gives}
-use Rattle.operations.specs.Operation.{fenceBytes}
+use Rattle.operations.specs.Operation.{byteOf, fenceBytes}
 use Rattle.rule.specs.Stream.{Stream}
 use Rattle.rule.specs.Rule.{wayNumber}
 use Rattle.shims.specs.declared.Models.{Models}
@@ -21,7 +20,7 @@ use Rattle.mealy.specs.Arrivals.{Described}
 use Rattle.machine.specs.Shim.{shim}
 use Rattle.machine.specs.Counted.{ManySituations, ManyStates}
 use Rattle.listing.specs.Shape.{Parts, shape}
-use Rattle.listing.specs.Listed.{listedText, Listed}
+use Rattle.listing.specs.Listed.{listedText}
 use Rattle.demands.specs.Opened.{Opened, up, on, OpeningRefused}
 use Rattle.demands.specs.DirectRuns.{Accepts, StreamRefused}
 
@@ -63,6 +62,15 @@ pub record ListRan (input : List ℕ) (m : Models) : Type 0 where
   pub output : Stream
   pub accepts : Accepts m (parts .stream) output
 
+-- the two models' machine is not too large, and what tells it and the run's output exceeds the room
+pub record ListExceeds (m : Models) (output : Stream) (room : ℕ) : Type 0 where
+  pub few-situations : ManySituations (m .way) (up m) (on m) → ⊥
+  pub few-states : ManyStates (m .way) (up m) (on m) → ⊥
+  pub states : ℕ
+  pub row : ℕ → ℕ → Answer ℕ ℕ
+  pub described : Described (shim (m .way) (up m) (on m)) (Same (shim (m .way) (up m) (on m))) states row
+  pub exceeds : room < length (listedText m (map byteOf output) states row)
+
 -- A call is refused, where the buffer has this room: by the input's length or shape, by its texts, by its stream, by the size of the machine, or last
 -- by the room.
 pub data ListRefused (input : List ℕ) (room : ℕ) : Refusal → Type 0 where
@@ -74,5 +82,4 @@ pub data ListRefused (input : List ℕ) (room : ℕ) : Refusal → Type 0 where
   situations : {m : Models} → ListRan input m → ManySituations (m .way) (up m) (on m) → ListRefused input room Refusal.TooManySituations
   states : {m : Models} → ListRan input m → (ManySituations (m .way) (up m) (on m) → ⊥) → ManyStates (m .way) (up m) (on m)
       → ListRefused input room Refusal.TooManyStates
-  too-small : {text : List ℕ} {fences state : ℕ} → Listed input (gives text fences state) → room < length text
-      → ListRefused input room Refusal.BufferTooSmall
+  too-small : {m : Models} (r : ListRan input m) → ListExceeds m (r .output) room → ListRefused input room Refusal.BufferTooSmall
