@@ -30,7 +30,7 @@ use Rattle.listing.specs.Listed.{Listed}
 use Rattle.demands.specs.Listings.{ListRefused}
 use Rattle.demands.proofs.Lists.{withheld-listing, listing-withheld}
 use Rattle.demands.specs.ModelCalls.{ModelRefused, BuiltInRefused, TextsCompare}
-use Rattle.demands.proofs.Models.{model-told, told-model, built-in-told, told-built-in, compared-told}
+use Rattle.demands.proofs.Models.{model-told, told-model, built-in-told, told-built-in, compared-told, told-compared}
 use Rattle.demands.specs.ImageCalls.{ImageRefused, ReadRefused, ImageRunRefused}
 use Rattle.demands.proofs.Images.{verdict-told, told-verdict, back-told, told-back, run-told, told-run}
 use Rattle.demands.specs.Generated as generate
@@ -197,8 +197,16 @@ built-in-refused-exactly-when number {out} {after = after} call why = (
   λ h. withheld-refused call (told-built-in number (length out) h),
 )
 
--- Two models compare as 01 says, refusals too: `compared` is what the number that the call returns, its relation and its five numbers are those of.
+-- Two models compare as 01 says, refusals too, and in no other way: the number that the call returns, its relation and its five numbers are those of
+-- the one thing that the two texts compare as.
 pub compare-told : (first second : List ℕ) {number relation : ℕ} {numbers : List ℕ} → TellsRelation (comparing first second) number relation numbers
-    → (compared : Compared) × TextsCompare first second compared × (number ≡ numberIn (comparedAs compared)) × (relation ≡ relationOf compared)
-    × (numbers ≡ numbersOf (comparedAs compared))
-compare-told first second call = (comparing first second, compared-told first second, call .returned, call .set, call .told)
+    → (compared : Compared) × TextsCompare first second compared × ((other : Compared) → TextsCompare first second other → compared ≡ other)
+    × (number ≡ numberIn (comparedAs compared)) × (relation ≡ relationOf compared) × (numbers ≡ numbersOf (comparedAs compared))
+compare-told first second call = (
+  comparing first second,
+  compared-told first second,
+  λ other h. told-compared first second h,
+  call .returned,
+  call .set,
+  call .told,
+)

@@ -1,7 +1,7 @@
 -- What is given by the calls that take a model's text or a built-in's number, in 01's words: what is read of a text is what 01 tells of it, and a
 -- number is in range or not. Assumes nothing.
 use Prim.Native.Nat.{ℕ, _<_, _≤_}
-use mathlib.Core.Path.{_≡_, refl, sym, ap, subst}
+use mathlib.Core.Path.{_≡_, refl, sym, ap, subst, _∙_}
 use mathlib.Core.List.{List}
 use native.Mathlib.Decide.{decLt}
 use native.Mathlib.Omega.{arith}
@@ -18,8 +18,9 @@ use Rattle.models.specs.Told.{Told, accepting}
 use Rattle.models.proofs.Words.{told-is}
 use Rattle.writing.specs.Calls.{textGiven, backGiven}
 use Rattle.built_ins.specs.BuiltIns.{builtIn, builtInReading, builtInGiven}
+use Rattle.comparison.specs.declared.Compared.{Compared}
 use Rattle.comparison.specs.Comparison.{comparedBoth, comparedFirst, comparing}
-use Rattle.comparison.proofs.Words.{compares}
+use Rattle.comparison.proofs.Words.{compares, compares-is}
 use Rattle.demands.specs.ModelCalls as calls
 use Rattle.demands.specs.ModelCalls.{ModelRefused, text-refused, BuiltInRefused, out-of-range, TextsCompare, first-refused, second-refused}
 use Rattle.demands.proofs.Delivered.{Withheld, refused, exceeds, refused-as}
@@ -86,3 +87,14 @@ compared-told first second = by (reading first .verdict) refl
         → TextsCompare first second (comparedFirst v (reading first .model .ppo) (reading second))
     by (Verdict.Refused why) e = first-refused (told-refused first e)
     by Verdict.Accepted e = both (told-accepted first e) (reading second .verdict) refl
+
+pub told-compared : (first second : List ℕ) {c : Compared} → TextsCompare first second c → comparing first second ≡ c
+unfolding comparing
+told-compared first second (first-refused t) = ap (λ (r : Reading). comparedFirst (r .verdict) (r .model .ppo) (reading second)) (sym (told-is t))
+told-compared first second (second-refused {a = a} t u) =
+    ap (λ (r : Reading). comparedFirst (r .verdict) (r .model .ppo) (reading second)) (sym (told-is t))
+    ∙ ap (λ (r : Reading). comparedBoth (a .ppo) (r .verdict) (r .model .ppo)) (sym (told-is u))
+told-compared first second (calls.compares {a = a} t u c) =
+    ap (λ (r : Reading). comparedFirst (r .verdict) (r .model .ppo) (reading second)) (sym (told-is t))
+    ∙ ap (λ (r : Reading). comparedBoth (a .ppo) (r .verdict) (r .model .ppo)) (sym (told-is u))
+    ∙ ap Compared.Is (sym (compares-is c))

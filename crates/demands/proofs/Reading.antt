@@ -1,5 +1,5 @@
 -- A stream of bytes and its operations: as long as each byte is an operation of the upstream model they go side by side, byte by byte, and where that
--- ends the fault operation-at. Assumes nothing.
+-- ends the fault stands. Assumes nothing.
 use Prim.Native.Nat.{ℕ, suc, _+_, _<_}
 use mathlib.Core.Path.{_≡_, refl, sym, ap, ap₂, subst, _∙_}
 use mathlib.Core.List.{List, [], _∷_, _++_, map}
@@ -75,7 +75,7 @@ reads-all n at (b ∷ bytes) e = look (judged n at b) refl (λ h. reads-all n (s
         (reads-on b bytes op ops (g .0) (m .0), own-on n op ops (g .1) (m .1))
     look (bad why) h more z = differ (cc)
 
--- The first byte at fault: what operation-at before it are all the operations.
+-- The first byte at fault: what stands before it are all the operations.
 pub record FaultAt (n at : ℕ) (bytes : List ℕ) (why : Refusal) : Type 0 where
   pub first : List ℕ
   pub byte : ℕ
@@ -124,7 +124,7 @@ faults n at (b ∷ bytes) why e = look (judged n at b) refl (λ h. faults n (suc
           at-fault = subst (λ (i : ℕ). AtFault n i b why) k (subst (AtFault n at b) same (bad-is n at b other h));
         }
 
--- One of the operations: the byte that it is, and what operation-at before it.
+-- One of the operations: the byte that it is, and what stands before it.
 pub record OperationAt (n at : ℕ) (bytes : List ℕ) (first : Stream) (op : Operation) : Type 0 where
   pub before : List ℕ
   pub byte : ℕ

@@ -248,7 +248,7 @@ pub list-out : (input : List ℕ) {out : List ℕ} {r : Answer} {after : List �
 list-out input call = never-too-small (call .delivered) listOut (λ e. listed-not-7 (call .right) e)
     (λ bytes f s e. longest-listing (subst (Listed input) e (call .right)))
 
--- SHIM_TEXT_OUT: textOut for a model's text that is read and written back,
+-- SHIM_TEXT_OUT: 739 for a model's text that is read and written back,
 pub text-out : (text : List ℕ) {out : List ℕ} {r : Answer} {after : List ℕ} → Delivers (backGiven text) out r after → textOut ≤ length out
     → r ≡ Answer.Refused Refusal.BufferTooSmall → ⊥
 text-out text call = never-too-small call textOut (λ e. none (reading text .verdict) refl e) (λ bytes f s e. short (reading text .verdict) refl e)

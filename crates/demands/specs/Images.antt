@@ -79,15 +79,15 @@ pub record ThreadDone (m : Models) (image : List ℕ) (state : ℕ) (given put :
   pub state-is : state ≡ stateAfter m image input
   pub state-below : state < statesOf image
 
--- The answer to the next block of a thread, and the buffer after it, are those of the one stream that all of it is: its further output with an end
--- state, or its refusal, counted from the block's start.
-pub data AsOneStream (m : Models) (image given put block out : List ℕ) : answers.Answer → List ℕ → Type 0 where
-  goes-on : (rest : List ℕ) (next : ℕ) → direct (m .way) (up m) (on m) (given ++ block) ≡ puts (put ++ rest) → next < statesOf image
-      → AsOneStream m image given put block out (answerWith rest (fenceBytes rest) next (length out)) (bufferWith rest out)
-  stops : (why : Stop) (place : ℕ) → direct (m .way) (up m) (on m) (given ++ block) ≡ refuses (refusalOf why (length given + place))
-      → AsOneStream m image given put block out (answers.Answer.Refused (refusalOf why place)) out
+-- The answer to the next block of a thread, and the buffer after it, are those of the one stream that all of it is: its further output, where that
+-- fits, with an end state, or its refusal, counted from the block's start.
+pub data AsOneStream (m : Models) (image given put bytes out : List ℕ) : answers.Answer → List ℕ → Type 0 where
+  goes-on : (rest : List ℕ) (next : ℕ) → direct (m .way) (up m) (on m) (given ++ bytes) ≡ puts (put ++ rest) → next < statesOf image
+      → AsOneStream m image given put bytes out (answerWith rest (fenceBytes rest) next (length out)) (bufferWith rest out)
+  stops : (why : Stop) (place : ℕ) → direct (m .way) (up m) (on m) (given ++ bytes) ≡ refuses (refusalOf why (length given + place))
+      → AsOneStream m image given put bytes out (answers.Answer.Refused (refusalOf why place)) out
 
 -- the same answer but for the end state, which a direct run does not tell
 abbrev pub endingIn : ℕ → answers.Answer → answers.Answer
-endingIn state (answers.Answer.Done written fences none) = answers.Answer.Done written fences state
+endingIn state (answers.Answer.Done written fences other) = answers.Answer.Done written fences state
 endingIn state (answers.Answer.Refused why) = answers.Answer.Refused why

@@ -10,7 +10,7 @@ textOut = 739
 abbrev pub runOut : ℕ
 runOut = 8191
 
--- SHIM_IMAGE_RUN_OUT: an image's state 0 may put a fence there
+-- SHIM_IMAGE_RUN_OUT: the state that a run starts in may put a fence there
 abbrev pub imageRunOut : ℕ
 imageRunOut = 8192
 
