@@ -1,7 +1,7 @@
 -- 01, "The machine": "Two accepted streams lead to the same state exactly when every continuation gets the same further output and refusals,
 -- length limits set aside."
 -- A machine answers one letter at a time. Its letters are the places of its alphabet, 0 upwards; a stream is a list of letters, of any length.
-use Prim.Native.Nat.{ℕ, suc, _≤_, _<_}
+use Prim.Native.Nat.{ℕ, suc, _≤_}
 use mathlib.Core.Path.{_≡_}
 use mathlib.Core.Bool.{Bool, true, false}
 use mathlib.Core.List.{List, [], _∷_}

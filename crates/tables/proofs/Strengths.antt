@@ -1,7 +1,7 @@
 -- A letter for each level and a level for each letter: the two undo each other, case by case. Assumes nothing.
 use Prim.Native.Nat.{ℕ, zero, suc, _<_}
 use mathlib.Core.Path.{_≡_, refl}
-use mathlib.Core.List.{List, [], _∷_, map}
+use mathlib.Core.List.{[], _∷_, map}
 use native.Mathlib.Omega.{arith}
 use Rattle.tables.specs.Strength.{levelOf, letter}
 
