@@ -10,7 +10,7 @@ use native.Mathlib.Nat.{add-assoc, le-antisymm}
 use lib.ListN.{length, take, drop, getD, length-append, length-drop, take-append-drop}
 use lib.Seq.{take-add, take-at, drop-at, length-take-le, take-append-add, drop-drop}
 use Rattle.texts.specs.declared.Step.{Step}
-use Rattle.texts.specs.Language.{Language, Begins, Longest, Seq, Or, Some, PrefixFree, Reads, found, stuck, shift, onStep, Judged, Judges}
+use Rattle.texts.specs.Language.{Language, Begins, Longest, Seq, Telling, Any, SeqOn, Or, Some, PrefixFree, Unique, Reads, found, stuck, shift, onStep, Judged, Judges}
 
 module _ (s rest : List ℕ) (m j : ℕ) (lm : m ≤ j) (lj : j ≤ length s) where
   cut : take j s ++ rest ≡ take m s ++ (take (j - m) (drop m s) ++ rest)
@@ -45,79 +45,107 @@ seq-join L M a b la mb =
 pub seq-apart : (L M : Language) (t : List ℕ) → Seq L M t → (a : List ℕ) × (b : List ℕ) × (t ≡ a ++ b) × L a × M b
 seq-apart L M t (n, ln, la, mb) = (take n t, drop n t, sym (take-append-drop n t), la, mb)
 
--- where the first part is found, the second decides
-pub longest-next : (L M : Language) → PrefixFree L → (s : List ℕ) (n k : ℕ) → n ≤ length s → L (take n s) → Longest M (drop n s) k
-    → Longest (Seq L M) s (n + k)
-longest-next L M free s n k ln l h = record {
-  within = inside;
-  begins = (rest, (n, reach, subst L (sym (take-cut s rest n (n + k) (omega arith) inside)) l, subst M (sym rest-is) (h .begins .1)));
-  longest = most;
+-- the same form under another name
+pub longest-iff : (L M : Language) → ((t : List ℕ) → L t → M t) → ((t : List ℕ) → M t → L t) → (s : List ℕ) (k : ℕ) → Longest L s k → Longest M s k
+longest-iff L M to back s k h = record {
+  within = h .within;
+  begins = (h .begins .0, to _ (h .begins .1));
+  longest = (λ j lj b. h .longest j lj (b .0, back _ (b .1)));
 }
-  where
-    rest : List ℕ
-    rest = h .begins .0
 
-    inside : n + k ≤ length s
-    inside = omega (arith, length-drop n s, h .within)
-
-    reach : n ≤ length (take (n + k) s ++ rest)
-    reach = omega (arith, length-begun s rest (n + k) inside)
-
-    rest-is : drop n (take (n + k) s ++ rest) ≡ take k (drop n s) ++ rest
-    rest-is =
-        let e : n + k - n ≡ k = omega arith in
-        drop-cut s rest n (n + k) (omega arith) inside ∙ ap (λ (i : ℕ). take i (drop n s) ++ rest) e
-
-    most : (j : ℕ) → j ≤ length s → Begins (Seq L M) (take j s) → j ≤ n + k
-    most j lj (more, (m, lm, a, b)) = by (decLe j n)
-      where
-        by : Dec (j ≤ n) → j ≤ n + k
-        by (yes le) = omega arith
-        by (no gt) =
-            let nj : n ≤ j = omega arith in
-            let here : n ≤ length (take j s ++ more) = omega (arith, length-begun s more j lj) in
-            let same : m ≡ n = free (take j s ++ more) m n lm here a (subst L (sym (take-cut s more n j nj lj)) l) in
-            let b' : M (drop n (take j s ++ more)) = subst (λ (i : ℕ). M (drop i (take j s ++ more))) same b in
-            let low : j - n ≤ k = h .longest (j - n) (omega (arith, length-drop n s)) (more, subst M (drop-cut s more n j nj lj) b') in
-            omega arith
-
--- where the first part is not found, it decides
-module _ (L M : Language) (s : List ℕ) (none : (n : ℕ) → n ≤ length s → L (take n s) → ⊥) where
-  pub longest-stuck : (w : List ℕ) → M w → (k : ℕ) → Longest L s k → Longest (Seq L M) s k
-  longest-stuck w mw k h = record {
-    within = h .within;
-    begins = (rest ++ w, (length begun, reach, subst L (sym front) (h .begins .1), subst M (sym back) mw));
+-- where the first part is found, the second decides
+module _ {A : Type 0} (L : Telling A) (M : A → Language) where
+  pub next-decides : Unique L → (s : List ℕ) (n k : ℕ) (a : A) → n ≤ length s → L a (take n s) → Longest (M a) (drop n s) k → Longest (SeqOn L M) s (n + k)
+  next-decides unique s n k a ln l h = record {
+    within = inside;
+    begins = (rest, (a, (n, reach, subst (L a) (sym (take-cut s rest n (n + k) (omega arith) inside)) l, subst (M a) (sym rest-is) (h .begins .1))));
     longest = most;
   }
     where
       rest : List ℕ
       rest = h .begins .0
 
-      begun : List ℕ
-      begun = take k s ++ rest
+      inside : n + k ≤ length s
+      inside = omega (arith, length-drop n s, h .within)
 
-      whole : take k s ++ (rest ++ w) ≡ begun ++ w
-      whole = sym (append-assoc (take k s) rest w)
+      reach : n ≤ length (take (n + k) s ++ rest)
+      reach = omega (arith, length-begun s rest (n + k) inside)
 
-      reach : length begun ≤ length (take k s ++ (rest ++ w))
-      reach = omega (arith, ap length whole, length-append begun w)
+      rest-is : drop n (take (n + k) s ++ rest) ≡ take k (drop n s) ++ rest
+      rest-is =
+          let e : n + k - n ≡ k = omega arith in
+          drop-cut s rest n (n + k) (omega arith) inside ∙ ap (λ (i : ℕ). take i (drop n s) ++ rest) e
 
-      front : take (length begun) (take k s ++ (rest ++ w)) ≡ begun
-      front = ap (take (length begun)) whole ∙ take-at begun w (length begun) refl
-
-      back : drop (length begun) (take k s ++ (rest ++ w)) ≡ w
-      back = ap (drop (length begun)) whole ∙ drop-at begun w (length begun) refl
-
-      most : (j : ℕ) → j ≤ length s → Begins (Seq L M) (take j s) → j ≤ k
-      most j lj (more, (m, lm, a, b)) = by (decLe m j)
+      most : (j : ℕ) → j ≤ length s → Begins (SeqOn L M) (take j s) → j ≤ n + k
+      most j lj (more, (b, (m, lm, x, y))) = by (decLe j n)
         where
-          by : Dec (m ≤ j) → j ≤ k
-          by (yes le) = absurd (none m (omega arith) (subst L (take-cut s more m j le lj) a))
+          by : Dec (j ≤ n) → j ≤ n + k
+          by (yes le) = omega arith
           by (no gt) =
-              let e : m ≡ length (take j s) + (m - j) = omega (arith, length-take-le j s lj) in
-              let split : take m (take j s ++ more) ≡ take j s ++ take (m - j) more =
-              ap (λ (i : ℕ). take i (take j s ++ more)) e ∙ take-append-add (take j s) more (m - j) in
-              h .longest j lj (take (m - j) more, subst L split a)
+              let nj : n ≤ j = omega arith in
+              let all : List ℕ = take j s ++ more in
+              let here : n ≤ length all = omega (arith, length-begun s more j lj) in
+              let same = unique all m n b a lm here x (subst (L a) (sym (take-cut s more n j nj lj)) l) in
+              let y′ : M a (drop n all) = subst (λ (c : A). M c (drop n all)) (same .1) (subst (λ (i : ℕ). M b (drop i all)) (same .0) y) in
+              let low : j - n ≤ k = h .longest (j - n) (omega (arith, length-drop n s)) (more, subst (M a) (drop-cut s more n j nj lj) y′) in
+              omega arith
+
+  -- where the first part is not found, it decides
+  module _ (s : List ℕ) (none : (n : ℕ) (a : A) → n ≤ length s → L a (take n s) → ⊥) where
+    pub first-decides : ((a : A) → Some (M a)) → (k : ℕ) → Longest (Any L) s k → Longest (SeqOn L M) s k
+    first-decides some k h = record {
+      within = h .within;
+      begins = (rest ++ w, (a, (length begun, reach, subst (L a) (sym front) (h .begins .1 .1), subst (M a) (sym back) (some a .1))));
+      longest = most;
+    }
+      where
+        rest : List ℕ
+        rest = h .begins .0
+
+        a : A
+        a = h .begins .1 .0
+
+        w : List ℕ
+        w = some a .0
+
+        begun : List ℕ
+        begun = take k s ++ rest
+
+        whole : take k s ++ (rest ++ w) ≡ begun ++ w
+        whole = sym (append-assoc (take k s) rest w)
+
+        reach : length begun ≤ length (take k s ++ (rest ++ w))
+        reach = omega (arith, ap length whole, length-append begun w)
+
+        front : take (length begun) (take k s ++ (rest ++ w)) ≡ begun
+        front = ap (take (length begun)) whole ∙ take-at begun w (length begun) refl
+
+        back : drop (length begun) (take k s ++ (rest ++ w)) ≡ w
+        back = ap (drop (length begun)) whole ∙ drop-at begun w (length begun) refl
+
+        most : (j : ℕ) → j ≤ length s → Begins (SeqOn L M) (take j s) → j ≤ k
+        most j lj (more, (b, (m, lm, x, y))) = by (decLe m j)
+          where
+            by : Dec (m ≤ j) → j ≤ k
+            by (yes le) = absurd (none m b (omega arith) (subst (L b) (take-cut s more m j le lj) x))
+            by (no gt) =
+                let e : m ≡ length (take j s) + (m - j) = omega (arith, length-take-le j s lj) in
+                let split : take m (take j s ++ more) ≡ take j s ++ take (m - j) more =
+                ap (λ (i : ℕ). take i (take j s ++ more)) e ∙ take-append-add (take j s) more (m - j) in
+                h .longest j lj (take (m - j) more, (b, subst (L b) split x))
+
+-- parts that tell nothing
+module _ (L M : Language) where
+  seq-on : (k : ℕ) (s : List ℕ) → Longest (SeqOn {A = Unit} (λ _. L) (λ _. M)) s k → Longest (Seq L M) s k
+  seq-on k s = longest-iff (SeqOn {A = Unit} (λ _. L) (λ _. M)) (Seq L M) (λ t x. x .1) (λ t x. (tt, x)) s k
+
+  pub longest-next : PrefixFree L → (s : List ℕ) (n k : ℕ) → n ≤ length s → L (take n s) → Longest M (drop n s) k → Longest (Seq L M) s (n + k)
+  longest-next free s n k ln l h = seq-on (n + k) s (next-decides (λ _. L) (λ _. M) (λ s m n a b lm ln x y. (free s m n lm ln x y, refl)) s n k tt ln l h)
+
+  pub longest-stuck : (s : List ℕ) → ((n : ℕ) → n ≤ length s → L (take n s) → ⊥) → Some M → (k : ℕ) → Longest L s k → Longest (Seq L M) s k
+  longest-stuck s none some k h =
+      seq-on k s
+      (first-decides (λ _. L) (λ _. M) s (λ n _. none n) (λ _. some) k (longest-iff L (Any {A = Unit} (λ _. L)) (λ t x. (tt, x)) (λ t x. x .1) s k h))
 
 -- there is one longest beginning
 pub longest-one : (L : Language) (t : List ℕ) (j k : ℕ) → Longest L t j → Longest L t k → j ≡ k
@@ -140,9 +168,9 @@ module _ {A : Type 0} (refuse : ℕ → A) where
   -- one part after another
   pub judged-seq : (L M : Language) → PrefixFree L → Some M → (s : List ℕ) (at : ℕ) (g : ℕ → A) {r : Step} → Reads L s r
       → ((n : ℕ) → n ≤ length s → Judged refuse M (drop n s) (at + n) (g (at + n))) → Judged refuse (Seq L M) s at (onStep refuse (shift at r) g)
-  judged-seq L M free (w, mw) s at g (stuck {k = k} h none) rest =
-      inr (k, longest-stuck L M s none w mw k h, (λ (m, lm, a, b). none m lm a), refl)
-  judged-seq L M free (w, mw) s at g (found {n = n} ln l) rest = by (rest n ln)
+  judged-seq L M free some s at g (stuck {k = k} h none) rest =
+      inr (k, longest-stuck L M s none some k h, (λ (m, lm, a, b). none m lm a), refl)
+  judged-seq L M free some s at g (found {n = n} ln l) rest = by (rest n ln)
     where
       by : Judged refuse M (drop n s) (at + n) (g (at + n)) → Judged refuse (Seq L M) s at (g (at + n))
       by (inl b) = inl (n, ln, l, b)
@@ -171,7 +199,7 @@ module _ {A : Type 0} (refuse : ℕ → A) where
   judged-iff L M to back s at r (inl a) = inl (to s a)
   judged-iff L M to back s at r (inr (k, h, no-text, e)) = inr (
     k,
-    record { within = h .within; begins = (h .begins .0, to _ (h .begins .1)); longest = (λ j lj b. h .longest j lj (b .0, back _ (b .1))) },
+    longest-iff L M to back s k h,
     (λ m. no-text (back s m)),
     e,
   )

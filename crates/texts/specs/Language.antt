@@ -25,6 +25,18 @@ pub record Longest (L : Language) (t : List ℕ) (k : ℕ) : Type 0 where
 abbrev pub Seq : Language → Language → Language
 Seq L M t = (n : ℕ) × (n ≤ length t) × L (take n t) × M (drop n t)
 
+-- what a part tells: for each value, the texts that tell it
+abbrev pub Telling : Type 0 → Type 1
+Telling A = A → Language
+
+-- the form of a part that tells anything
+abbrev pub Any : {A : Type 0} → Telling A → Language
+Any {A} L t = (a : A) × L a t
+
+-- one part, and then one whose form may depend on what the first told
+abbrev pub SeqOn : {A : Type 0} → Telling A → (A → Language) → Language
+SeqOn {A} L M t = (a : A) × Seq (L a) (M a) t
+
 abbrev pub Or : Language → Language → Language
 Or L M t = L t ⊎ M t
 
@@ -35,6 +47,11 @@ Some L = (w : List ℕ) × L w
 -- of a text at most one beginning is of the form
 abbrev pub PrefixFree : Language → Type 0
 PrefixFree L = (s : List ℕ) (m n : ℕ) → m ≤ length s → n ≤ length s → L (take m s) → L (take n s) → m ≡ n
+
+-- of a text at most one beginning tells anything, and it tells one value
+abbrev pub Unique : {A : Type 0} → Telling A → Type 0
+Unique {A} L =
+    (s : List ℕ) (m n : ℕ) (a b : A) → m ≤ length s → n ≤ length s → L a (take m s) → L b (take n s) → (m ≡ n) × (a ≡ b)
 
 -- what following one part from the front of s finds: the part, which ends at n; or that no beginning of s is of its form, and how far the
 -- longest goes that begins one
