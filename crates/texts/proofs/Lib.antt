@@ -2,4 +2,5 @@ pub mod Language
 pub mod Pattern
 pub mod NamePart
 pub mod Steps
+pub mod Telling
 pub mod Unique

@@ -1,3 +1,4 @@
 pub mod Language
 pub mod Pattern
 pub mod NamePart
+pub mod Telling
