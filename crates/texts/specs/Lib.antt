@@ -1,4 +1,5 @@
 pub mod Language
 pub mod Pattern
 pub mod NamePart
+pub mod NumberPart
 pub mod Telling

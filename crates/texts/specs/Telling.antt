@@ -1,11 +1,13 @@
 -- Parts of a text that tell something: a number, a name, the words of a row. How they are put together, and what reading one finds.
-use Prim.Native.Nat.{ℕ, zero, suc, _+_, _≤_}
+use Prim.Native.Nat.{ℕ, zero, suc, _+_, _≤_, _<_}
 use mathlib.Core.Path.{_≡_}
 use mathlib.Core.List.{List, [], _∷_, _++_}
+use mathlib.Core.Logic.{_⊎_}
 use lib.ListN.{length, take, drop}
+use Rattle.printing.specs.Decimal.{decimal}
 use Rattle.texts.specs.declared.Step.{Step}
+use Rattle.texts.specs.declared.Part.{Part}
 use Rattle.texts.specs.Language.{Language, Longest, Seq, Telling, Any}
-use Rattle.texts.specs.Pattern.{Follows}
 use Rattle.texts.specs.NamePart.{NameFormed, nameRun}
 
 -- one part, and then one whose form may depend on what the first told; the second tells for both
@@ -21,12 +23,23 @@ abbrev pub Items : {A : Type 0} → (ℕ → Telling A) → ℕ → Telling (Lis
 Items item zero values t = (values ≡ []) × (t ≡ [])
 Items item (suc n) values t = Then (Items item n) (λ before. Through (λ a. before ++ (a ∷ [])) (item n)) values t
 
--- a pattern, which tells nothing; a name and the byte e after it, which tell the name
+-- one part or another
+abbrev pub Either : {A : Type 0} → Telling A → Telling A → Telling A
+Either L M a t = L a t ⊎ M a t
+
+-- what is left of a part behind its first byte b
+abbrev pub After : {A : Type 0} → ℕ → Telling A → Telling A
+After b L a t = L a (b ∷ t)
+
+-- a word, which tells nothing; a name and the byte e after it, which tell the name; a number below a bound in decimal and the byte e after it
 abbrev pub Word : List ℕ → Telling Unit
-Word pattern _ = Follows pattern
+Word word _ t = t ≡ word
 
 abbrev pub Named : ℕ → Telling (List ℕ)
 Named e n t = NameFormed n × (t ≡ n ++ (e ∷ []))
+
+abbrev pub Numbered : ℕ → ℕ → Telling ℕ
+Numbered bound e n t = (n < bound) × (t ≡ decimal n ++ (e ∷ []))
 
 -- what is taken from a text: a value, and the place behind the part that told it; or the place at which the text departs
 pub data Taken (A : Type 0) : Type 0 where
@@ -39,7 +52,7 @@ pub data Finds {A : Type 0} (L : Telling A) (t : List ℕ) (at : ℕ) : Taken A 
   departs : {k p : ℕ} → p ≡ at + k → Longest (Any L) (drop at t) k
       → ((n : ℕ) (a : A) → n ≤ length (drop at t) → L a (take n (drop at t)) → ⊥) → Finds L t at (stopped p)
 
--- what following a pattern has taken; and what following a name has
+-- what following a word has taken, what following a name has, and what following a part of one number has
 abbrev pub wordTaken : Step → Taken Unit
 wordTaken (Step.Next p) = took p tt
 wordTaken (Step.Stuck p) = stopped p
@@ -47,3 +60,7 @@ wordTaken (Step.Stuck p) = stopped p
 abbrev pub nameTaken : List ℕ → ℕ → Step → Taken (List ℕ)
 nameTaken t at (Step.Next p) = took p (take (nameRun 16 (drop at t)) (drop at t))
 nameTaken t at (Step.Stuck p) = stopped p
+
+abbrev pub partTaken : Part → Taken ℕ
+partTaken (Part.Next p n) = took p n
+partTaken (Part.Stuck p) = stopped p

@@ -10,6 +10,12 @@ pub enum Step {
     Stuck(usize),
 }
 
+// The same of a part that tells a number: the place after it with the number.
+pub enum Part {
+    Next(usize, usize),
+    Stuck(usize),
+}
+
 fn is_cell(b: u8) -> bool
     ensures { λ r. ⌜ r ≡ cellByte b ⌝ }
 {
