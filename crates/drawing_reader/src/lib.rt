@@ -1,0 +1,2 @@
+// A drawing read back: from its text to the image of the machine that it draws.
+mod decimal;
