@@ -106,6 +106,12 @@ module _ (t : List ℕ) (here k : ℕ) where
       either-second (NodeThen left k) (NodesEnd k) t here (λ b. 49 ≤ b) (λ l. omega arith) (node-begins left k some)
       (λ l. omega (arith, here-first)) h
 
+  -- and where no more may come
+  pub no-more : (left : ℕ) → left ≡ 0 → {r : Taken ℕ} → Finds (NodesEnd k) t here r → Finds (NodesFrom left k) t here r
+  unfolding NodesFrom
+  no-more zero none h = h
+  no-more (suc left) none h = absurd (omega arith)
+
   -- where it does not, a line does, or the text departs
   module _ (left : ℕ) (other : getD t here 0 ≡ 48 → ⊥) {p : ℕ} where
     pub nodes-more : Finds (Word (nodeLine k)) t here (took p tt) → {r : Taken ℕ} → Finds (NodesFrom left (suc k)) t p r
@@ -167,8 +173,11 @@ text-from (suc left) k zero l = inr (tt, sym (add-zero k), refl)
 text-from (suc left) k (suc d) l =
     subst (λ (n : ℕ). NodesFrom (suc left) k n (linesFrom k (suc d) ++ bytes "0")) (one-on k d)
     (subst (λ (x : List ℕ). NodesFrom (suc left) k (suc k + d) x) (sym (append-assoc (nodeLine k) (linesFrom (suc k) d) (bytes "0")))
-    (inl (tt, seq-join (Word (nodeLine k) tt) (NodesFrom left (suc k) (suc k + d)) (nodeLine k) (linesFrom (suc k) d ++ bytes "0") refl
-    (text-from left (suc k) d (omega arith)))))
+    (inl (
+      tt,
+      seq-join (Word (nodeLine k) tt) (NodesFrom left (suc k) (suc k + d)) (nodeLine k) (linesFrom (suc k) d ++ bytes "0") refl
+          (text-from left (suc k) d (omega arith)),
+    )))
 
 -- the lines of n nodes in turn, and the `0` behind them
 first-and-more : (d : ℕ) → nodeLine 0 ++ linesFrom 1 d ≡ inTurn nodeLine (1 + d)
@@ -183,7 +192,7 @@ nodes-text n t (_, (m, lm, e, rest)) = by (from-text 254 1 n (drop m t) rest)
       omega arith,
       omega arith,
       sym (take-append-drop m t) ∙ ap₂ (λ (x y : List ℕ). x ++ y) e f ∙ sym (append-assoc (nodeLine 0) (linesFrom 1 d) (bytes "0"))
-      ∙ ap (λ (x : List ℕ). x ++ bytes "0") (first-and-more d ∙ ap (inTurn nodeLine) (sym is)),
+          ∙ ap (λ (x : List ℕ). x ++ bytes "0") (first-and-more d ∙ ap (inTurn nodeLine) (sym is)),
     )
 
 pub text-nodes : (n : ℕ) → 1 ≤ n → n ≤ 255 → NodesPart n (inTurn nodeLine n ++ bytes "0")
@@ -192,6 +201,8 @@ text-nodes (suc d) some few =
     let is : 1 + d ≡ suc d = omega arith in
     subst (λ (k : ℕ). NodesPart k (inTurn nodeLine k ++ bytes "0")) is
     (subst (λ (x : List ℕ). NodesPart (1 + d) (x ++ bytes "0")) (first-and-more d)
-    (subst (NodesPart (1 + d)) (sym (append-assoc (nodeLine 0) (linesFrom 1 d) (bytes "0")))
-    (tt, seq-join (Word (nodeLine 0) tt) (NodesFrom 254 1 (1 + d)) (nodeLine 0) (linesFrom 1 d ++ bytes "0") refl
-    (text-from 254 1 d (omega arith)))))
+    (subst (NodesPart (1 + d)) (sym (append-assoc (nodeLine 0) (linesFrom 1 d) (bytes "0"))) (
+      tt,
+      seq-join (Word (nodeLine 0) tt) (NodesFrom 254 1 (1 + d)) (nodeLine 0) (linesFrom 1 d ++ bytes "0") refl
+          (text-from 254 1 d (omega arith)),
+    )))
