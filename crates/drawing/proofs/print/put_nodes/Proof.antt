@@ -41,7 +41,7 @@ same-length c = c .before .loop .inv .1 .size
 returns : tie.Need-returns Inv-loop μ-loop
 returns c =
     let l = c .before .loop in
-    let all : l .state ≡ c .before .before .before .before .args .states = omega arith in
+    let all : l .state ≡ c .before .before .before .args .states = omega arith in
     put-is (ap (inTurn nodeLine) all) (l .inv .1)
 
 pub put-nodes-spec : {M : Type 1} → statement M
