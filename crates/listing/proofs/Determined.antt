@@ -1,6 +1,6 @@
 -- What an input is listed as is determined: the stages exclude each other, and so are the rows of a machine. Assumes nothing.
-use Prim.Native.Nat.{ℕ, zero, suc, _<_}
-use mathlib.Core.Path.{_≡_, refl, sym, ap, ap₂, subst, _∙_}
+use Prim.Native.Nat.{ℕ, _<_}
+use mathlib.Core.Path.{_≡_, refl, sym, ap, subst, _∙_}
 use mathlib.Core.List.{List, _++_}
 use mathlib.Core.Option.{Option}
 use native.Mathlib.Omega.{arith}
@@ -13,6 +13,7 @@ use Rattle.shims.specs.declared.Models.{Models}
 use Rattle.shims.specs.Opening.{openedBy}
 use Rattle.shims.proofs.Calls.{given-one}
 use Rattle.operations.specs.Operation.{fenceBytes}
+use Rattle.printing.proofs.Turns.{inTurn-same}
 use Rattle.runs.specs.Bytes.{puts}
 use Rattle.mealy.specs.Runs.{Answer as Entry, Machine, Same}
 use Rattle.mealy.specs.Arrivals.{Described}
@@ -23,19 +24,11 @@ use Rattle.listing.specs.Listed.{ruleOf, listingOf, listedText, MachineL
 use Rattle.listing.specs.Listed.{PartsListed, ShapeListed, shapeless, shaped, Listed, over, within}
 
 -- rows that agree where there are states and letters print the same lines
-state-same : (s : ℕ) (row wor : ℕ → Entry ℕ ℕ) (n : ℕ) → ((a : ℕ) → a < n → row a ≡ wor a) → stateLines s row n ≡ stateLines s wor n
-unfolding stateLines
-state-same s row wor zero h = refl
-state-same s row wor (suc n) h =
-    ap₂ (λ (x : List ℕ) (y : Entry ℕ ℕ). x ++ stepLine s n y) (state-same s row wor n (λ a l. h a (omega arith))) (h n (omega arith))
-
 rows-same : (row wor : ℕ → ℕ → Entry ℕ ℕ) (letters k : ℕ) → ((i a : ℕ) → i < k → a < letters → row i a ≡ wor i a)
     → rowLines row letters k ≡ rowLines wor letters k
-unfolding rowLines
-rows-same row wor letters zero h = refl
-rows-same row wor letters (suc k) h =
-    ap₂ (λ (x y : List ℕ). x ++ y) (rows-same row wor letters k (λ i a l m. h i a (omega arith) m))
-    (state-same k (row k) (wor k) letters (λ a m. h k a (omega arith) m))
+rows-same row wor letters k h =
+    inTurn-same (λ (s : ℕ). stateLines s (row s) letters) (λ (s : ℕ). stateLines s (wor s) letters) k
+    (λ s l. inTurn-same (λ (a : ℕ). stepLine s a (row s a)) (λ (a : ℕ). stepLine s a (wor s a)) letters (λ a m. ap (stepLine s a) (h s a l m)))
 
 module _ (m : Models) (output : List ℕ) where
   abbrev rule : Machine Situation ℕ

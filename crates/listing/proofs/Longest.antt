@@ -5,7 +5,6 @@ use Prim.Native.Nat.{ℕ, zero, suc, _+_, _*_, _^_, _≤_, _<_}
 use mathlib.Core.Path.{_≡_, refl}
 use mathlib.Core.List.{List, [], _∷_, _++_}
 use native.Mathlib.Omega.{arith}
-use native.Mathlib.Nat.{suc-mul}
 use native.Mathlib.Decide.{decLt}
 use lib.ListN.{length, length-append}
 use Rattle.ground.specs.Bytes.{bytes}
@@ -13,9 +12,11 @@ use Rattle.operations.specs.Alphabet.{operationOf}
 use Rattle.operations.specs.Operation.{byteOf}
 use Rattle.rule.specs.declared.way.Way.{Way}
 use Rattle.printing.specs.Decimal.{decimal}
+use Rattle.printing.specs.Turns.{inTurn}
 use Rattle.printing.proofs.Decimals.{length-digits}
+use Rattle.printing.proofs.Turns.{length-turn, turns-short}
 use Rattle.mealy.specs.Runs.{Answer}
-use Rattle.listing.specs.Printed.{wayWord, namesLine, numberLine, outLine, Listing, listing, refusedAt, fenceMark, nextState, stepLine}
+use Rattle.listing.specs.Printed.{wayWord, namesLine, numberLine, outLine, Listing, listing, refusedAt, answerMark, nextState, stepLine}
 use Rattle.listing.specs.Printed.{stateLines, rowLines}
 use Rattle.listing.specs.inner.Limits.{Limited}
 
@@ -46,7 +47,7 @@ step-length s a x d hs hx =
     let last : List ℕ = decimal (nextState x) ++ bytes "\n" in
     omega (
       arith,
-      length-append (decimal s) ((32 ∷ byteOf (operationOf a) ∷ 32 ∷ fenceMark x ∷ 32 ∷ []) ++ last),
+      length-append (decimal s) ((32 ∷ byteOf (operationOf a) ∷ 32 ∷ answerMark x ∷ 32 ∷ []) ++ last),
       length-append (decimal (nextState x)) (bytes "\n"),
       hs,
       length-digits 2 (nextState x) hx,
@@ -54,17 +55,8 @@ step-length s a x d hs hx =
 
 state-length : (s : ℕ) (row : ℕ → Answer ℕ ℕ) (n d e : ℕ) → length (decimal s) ≤ d → d + 9 ≡ e
     → ((a : ℕ) → a < n → nextState (row a) < 1000) → length (stateLines s row n) ≤ n * e
-unfolding stateLines
-state-length s row zero d e hs w h = omega arith
-state-length s row (suc n) d e hs w h =
-    let p : suc n * e ≡ n * e + e = suc-mul n e in
-    omega (
-      arith,
-      p,
-      length-append (stateLines s row n) (stepLine s n (row n)),
-      state-length s row n d e hs w (λ a l. h a (omega arith)),
-      step-length s n (row n) d hs (h n (omega arith)),
-    )
+state-length s row n d e hs w h =
+    turns-short (λ (a : ℕ). stepLine s a (row a)) n e (λ a l. omega (arith, w, step-length s a (row a) d hs (h a l)))
 
 -- the lines of k states have n bytes at most: 200 for a state of one digit, 220 for one of two, 240 for one of three
 data Lines (k n : ℕ) : Type 0 where
@@ -74,18 +66,18 @@ data Lines (k n : ℕ) : Type 0 where
 
 lines-length : (row : ℕ → ℕ → Answer ℕ ℕ) (letters k : ℕ) → letters ≤ 20 → k ≤ 255
     → ((i a : ℕ) → i < k → a < letters → nextState (row i a) < 1000) → Lines k (length (rowLines row letters k))
-unfolding rowLines
+unfolding inTurn
 lines-length row letters zero hl hk h = one (omega arith) (omega arith)
 lines-length row letters (suc k) hl hk h =
     by (lines-length row letters k hl (omega arith) (λ i a l m. h i a (omega arith) m))
   where
-    both : length (rowLines row letters k ++ stateLines k (row k) letters) ≡ length (rowLines row letters k) + length (stateLines k (row k) letters)
-    both = length-append (rowLines row letters k) (stateLines k (row k) letters)
+    both : length (rowLines row letters (suc k)) ≡ length (rowLines row letters k) + length (stateLines k (row k) letters)
+    both = length-turn (λ (s : ℕ). stateLines s (row s) letters) k
 
     last : (d e : ℕ) → length (decimal k) ≤ d → d + 9 ≡ e → length (stateLines k (row k) letters) ≤ letters * e
     last d e n w = state-length k (row k) letters d e n w (λ a l. h k a (omega arith) l)
 
-    by : Lines k (length (rowLines row letters k)) → Lines (suc k) (length (rowLines row letters k ++ stateLines k (row k) letters))
+    by : Lines k (length (rowLines row letters k)) → Lines (suc k) (length (rowLines row letters (suc k)))
     by (one l p) =
         elim (decLt k 10) [
           | yes m ↦ one (omega arith) (omega (arith, both, p, last 1 10 (length-digits 0 k m) refl))

@@ -1,18 +1,17 @@
 -- What is printed. Document 01: "the names and way, the states, one line per state and operation (state, operation, fence byte or `-`, or `!` if
 -- refused, next state), the direct run's output (nothing after `out ` if empty), its fences." "A `!` line ends in 0." "any refusal prints only
 -- `refused N at K`". Operations are those of the machine's alphabet, l, L, s, S, then the upstream's fences.
-use Prim.Native.Nat.{ℕ, zero, suc}
-use mathlib.Core.Bool.{cond}
+use Prim.Native.Nat.{ℕ}
 use mathlib.Core.List.{List, [], _∷_, _++_}
-use lib.Dec.{eqb}
 use Rattle.ground.specs.Bytes.{bytes}
 use Rattle.answers.specs.declared.Refusal.{Refusal}
 use Rattle.answers.specs.Answer.{numberOf, placeOf}
-use Rattle.operations.specs.Alphabet.{operationOf}
-use Rattle.operations.specs.Operation.{fenceByte, byteOf}
+use Rattle.operations.specs.Alphabet.{operationOf, fenceMark}
+use Rattle.operations.specs.Operation.{byteOf}
 use Rattle.rule.specs.declared.way.Way.{Way}
 use Rattle.mealy.specs.Runs.{Answer, refused, taken}
 use Rattle.printing.specs.Decimal.{decimal}
+use Rattle.printing.specs.Turns.{inTurn}
 
 abbrev pub wayWord : Way → List ℕ
 wayWord Way.Full = bytes "full"
@@ -25,10 +24,10 @@ namesLine upstream target way = upstream ++ (bytes " " ++ (target ++ (bytes " " 
 abbrev pub numberLine : List ℕ → ℕ → List ℕ
 numberLine word n = word ++ (decimal n ++ bytes "\n")
 
--- the fence byte, `-` for none (255), or `!`; and the next state
-abbrev pub fenceMark : Answer ℕ ℕ → ℕ
-fenceMark refused = 33
-fenceMark (taken fence next) = cond (eqb fence 255) 45 (fenceByte fence)
+-- the mark of the fence byte, which is 254 where refused; and the next state
+abbrev pub answerMark : Answer ℕ ℕ → ℕ
+answerMark refused = fenceMark 254
+answerMark (taken fence next) = fenceMark fence
 
 abbrev pub nextState : Answer ℕ ℕ → ℕ
 nextState refused = 0
@@ -37,16 +36,14 @@ nextState (taken fence next) = next
 -- the line of a state and a letter of the alphabet
 abbrev pub stepLine : ℕ → ℕ → Answer ℕ ℕ → List ℕ
 stepLine state letter answer =
-    decimal state ++ ((32 ∷ byteOf (operationOf letter) ∷ 32 ∷ fenceMark answer ∷ 32 ∷ []) ++ (decimal (nextState answer) ++ bytes "\n"))
+    decimal state ++ ((32 ∷ byteOf (operationOf letter) ∷ 32 ∷ answerMark answer ∷ 32 ∷ []) ++ (decimal (nextState answer) ++ bytes "\n"))
 
 -- the lines of a state, for the first letters; and of the first states
-unfoldable pub stateLines : ℕ → (ℕ → Answer ℕ ℕ) → ℕ → List ℕ
-stateLines state row zero = []
-stateLines state row (suc letter) = stateLines state row letter ++ stepLine state letter (row letter)
+abbrev pub stateLines : ℕ → (ℕ → Answer ℕ ℕ) → ℕ → List ℕ
+stateLines state row letters = inTurn (λ (letter : ℕ). stepLine state letter (row letter)) letters
 
-unfoldable pub rowLines : (ℕ → ℕ → Answer ℕ ℕ) → ℕ → ℕ → List ℕ
-rowLines row letters zero = []
-rowLines row letters (suc state) = rowLines row letters state ++ stateLines state (row state) letters
+abbrev pub rowLines : (ℕ → ℕ → Answer ℕ ℕ) → ℕ → ℕ → List ℕ
+rowLines row letters states = inTurn (λ (state : ℕ). stateLines state (row state) letters) states
 
 abbrev pub outLine : List ℕ → List ℕ
 outLine output = bytes "out " ++ (output ++ bytes "\n")

@@ -6,14 +6,12 @@ ghost use Rattle.ground.specs.Bytes.{bytes};
 ghost use Rattle.printing.specs.Name.{unfilled};
 ghost use Rattle.printing.specs.Putting.{Put};
 ghost use Rattle.machine.specs.Rows.{decoded, answerAt};
-ghost use Rattle.listing.specs.Printed.{wayWord, namesLine, numberLine, outLine, listing, refusedAt, fenceMark, nextState, stepLine};
+ghost use Rattle.listing.specs.Printed.{wayWord, namesLine, numberLine, outLine, listing, refusedAt, nextState, stepLine};
 ghost use Rattle.listing.specs.Printed.{stateLines, rowLines};
 ghost use Rattle.listing.specs.inner.Limits.{RowsThere, Listable};
 ghost use Rattle.listing.specs.inner.Making.{madeListing};
-use answers::Refusal;
 use machine::machine::Machine;
 use models::model::Name;
-use operations::Operation;
 use operations::alphabet;
 use operations::alphabet::ACCESSES;
 use operations::alphabet::STRIDE;
@@ -27,19 +25,6 @@ fn put_number_line(buffer: &mut [u8], at: usize, word: &[u8], number: u64) -> us
     let digits_at = printing::put(buffer, at, word);
     let end = printing::put_decimal(buffer, digits_at, number);
     printing::put(buffer, end, b"\n")
-}
-
-fn mark_of(word: u16) -> u8
-    ensures { λ r. ⌜ r ≡ fenceMark (decoded word) ⌝ }
-{
-    let fence = word / 256;
-    if fence == 254 {
-        return b'!';
-    }
-    if fence == 255 {
-        return b'-';
-    }
-    operations::byte_of(Operation::Fence(fence as usize))
 }
 
 fn next_of(word: u16) -> u64
@@ -59,7 +44,7 @@ fn put_step(buffer: &mut [u8], at: usize, state: usize, letter: usize, word: u16
         b' ',
         alphabet::letter_byte(letter),
         b' ',
-        mark_of(word),
+        alphabet::fence_mark(word / 256),
         b' ',
     ];
     let next = next_of(word);

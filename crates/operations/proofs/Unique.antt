@@ -5,7 +5,7 @@ use Rattle.operations.specs.declared.Kind.{Kind}
 use Rattle.operations.specs.declared.Operation.{Operation}
 use Rattle.operations.specs.declared.Byte.{Byte}
 use Rattle.operations.specs.Operation.{byteIs, byteOf}
-use Rattle.operations.specs.Alphabet.{accessLetters, kindOf, letterOf, operationOf}
+use Rattle.operations.specs.Alphabet.{accessLetters, kindOf, letterOf, operationOf, fenceMark}
 
 pub read-byte-one : (byte : ℕ) {r r′ : Byte} → r ≡ byteIs byte → r′ ≡ byteIs byte → r ≡ r′
 read-byte-one byte p q = p ∙ sym q
@@ -24,3 +24,6 @@ operation-of-one letter p q = p ∙ sym q
 
 pub letter-byte-one : (letter : ℕ) {r r′ : ℕ} → r ≡ byteOf (operationOf letter) → r′ ≡ byteOf (operationOf letter) → r ≡ r′
 letter-byte-one letter p q = p ∙ sym q
+
+pub fence-mark-one : (fence : ℕ) {r r′ : ℕ} → r ≡ fenceMark fence → r′ ≡ fenceMark fence → r ≡ r′
+fence-mark-one fence p q = p ∙ sym q

@@ -6,6 +6,7 @@ use mathlib.Core.Bool.{cond}
 use lib.Dec.{ltb, eqb}
 use Rattle.operations.specs.declared.Kind.{Kind}
 use Rattle.operations.specs.declared.Operation.{Operation}
+use Rattle.operations.specs.Operation.{fenceByte}
 
 -- how many letters are accesses, and how many there are with so many upstream fences
 abbrev pub accessLetters : ℕ
@@ -35,3 +36,8 @@ letterIn (Operation.Fence n) = accessLetters + n
 
 abbrev pub operationOf : ℕ → Operation
 operationOf a = cond (ltb a accessLetters) (Operation.Access (kindOf a)) (Operation.Fence (a - accessLetters))
+
+-- the mark of a fence byte of a machine's words, which listings and drawings print: "fence byte or `-`, or `!` if refused". An image has "a fence
+-- byte (a number, FF none, FE refused)".
+abbrev pub fenceMark : ℕ → ℕ
+fenceMark fence = cond (eqb fence 254) 33 (cond (eqb fence 255) 45 (fenceByte fence))

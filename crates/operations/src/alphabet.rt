@@ -1,7 +1,7 @@
 // The letters of a machine's alphabet: its operations by their places.
 ghost use Prim.Native.Nat.{_<_};
 ghost use mathlib.Core.Path.{_≡_};
-ghost use Rattle.operations.specs.Alphabet.{accessLetters, kindOf, letterOf, operationOf};
+ghost use Rattle.operations.specs.Alphabet.{accessLetters, kindOf, letterOf, operationOf, fenceMark};
 ghost use Rattle.operations.specs.Operation.{byteOf};
 use crate::Kind;
 use crate::Operation;
@@ -57,4 +57,17 @@ pub fn letter_byte(letter: usize) -> u8
     ensures { λ r. ⌜ r ≡ byteOf (operationOf letter) ⌝ }
 {
     crate::byte_of(operation_of(letter))
+}
+
+// The mark of a fence byte, which is the upper half of a word of a machine's rows.
+pub fn fence_mark(fence: u16) -> u8
+    ensures { λ r. ⌜ r ≡ fenceMark fence ⌝ }
+{
+    if fence == 254 {
+        return b'!';
+    }
+    if fence == 255 {
+        return b'-';
+    }
+    crate::byte_of(Operation::Fence(fence as usize))
 }

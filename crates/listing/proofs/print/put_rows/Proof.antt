@@ -1,16 +1,21 @@
 -- `put_rows` meets its contract: after so many states their lines stand there. Assumes nothing.
-use Prim.Native.Nat.{_-_, _≤_}
+use Prim.Native.Nat.{ℕ, _-_, _≤_}
 use mathlib.Core.Path.{_≡_, ap}
+use mathlib.Core.List.{List}
 use native.Mathlib.Omega.{arith}
 use borrow.Author.Needs.{needs}
 use denote.Ref.{now}
 use Rattle.printing.specs.Putting.{Put}
 use Rattle.printing.proofs.Putting.{put-is}
+use Rattle.printing.proofs.Turns.{put-no-turn, put-one-more}
 use Rattle.machine.specs.Rows.{answerAt}
-use Rattle.listing.specs.Printed.{rowLines}
-use Rattle.listing.proofs.Printing.{no-rows, one-row-more}
+use Rattle.listing.specs.Printed.{stateLines, rowLines}
 use Rattle.listing.proofs.print.put_rows.Statement.{statement}
 use Rattle.listing.proofs.print.put_rows.Tie as tie
+
+-- the lines of each state
+abbrev states : List ℕ → ℕ → ℕ → List ℕ
+states rows letters state = stateLines state (answerAt rows state) letters
 
 abbrev Inv-loop : tie.InvT-loop
 Inv-loop buffer₀ at rows states letters here₀ state₀ buffer here state =
@@ -22,7 +27,7 @@ abbrev μ-loop : tie.MeasureT-loop
 loop-holds : tie.Need-loop-holds Inv-loop μ-loop
 loop-holds c =
     let a = c .before .before .args in
-    (search needs, no-rows (answerAt (now (a .rows))) (a .letters))
+    (search needs, put-no-turn (states (now (a .rows)) (a .letters)))
 
 put-state-requires : tie.Need-put-state-requires Inv-loop μ-loop
 put-state-requires c κs = search needs
@@ -38,7 +43,7 @@ loop-again c =
     let p = c .before .before in
     let l = p .before .before .before .loop in
     let a = p .before .before .before .before .before .before .args in
-    (search needs, one-row-more (answerAt (now (a .rows))) (a .letters) (l .state) (l .inv .1) (p .put-state .ensures))
+    (search needs, put-one-more (states (now (a .rows)) (a .letters)) (l .state) (l .inv .1) (p .put-state .ensures))
 
 same-length : tie.Need-same-length Inv-loop μ-loop
 same-length c = c .before .loop .inv .1 .size

@@ -1,16 +1,21 @@
 -- `put_state` meets its contract: after so many letters their lines stand there. Assumes nothing.
-use Prim.Native.Nat.{_-_, _≤_}
+use Prim.Native.Nat.{ℕ, _-_, _≤_}
 use mathlib.Core.Path.{_≡_, ap}
+use mathlib.Core.List.{List}
 use native.Mathlib.Omega.{arith}
 use borrow.Author.Needs.{needs}
 use denote.Ref.{now}
 use Rattle.printing.specs.Putting.{Put}
 use Rattle.printing.proofs.Putting.{put-is}
+use Rattle.printing.proofs.Turns.{put-no-turn, put-one-more}
 use Rattle.machine.specs.Rows.{answerAt}
-use Rattle.listing.specs.Printed.{stateLines}
-use Rattle.listing.proofs.Printing.{no-steps, one-step-more}
+use Rattle.listing.specs.Printed.{stepLine, stateLines}
 use Rattle.listing.proofs.print.put_state.Statement.{statement}
 use Rattle.listing.proofs.print.put_state.Tie as tie
+
+-- the line of each letter
+abbrev steps : ℕ → List ℕ → ℕ → List ℕ
+steps state rows letter = stepLine state letter (answerAt rows state letter)
 
 abbrev Inv-loop : tie.InvT-loop
 Inv-loop buffer₀ at rows state letters here₀ letter₀ buffer here letter =
@@ -22,7 +27,7 @@ abbrev μ-loop : tie.MeasureT-loop
 loop-holds : tie.Need-loop-holds Inv-loop μ-loop
 loop-holds c =
     let a = c .before .before .args in
-    (search needs, no-steps (a .state) (answerAt (now (a .rows)) (a .state)))
+    (search needs, put-no-turn (steps (a .state) (now (a .rows))))
 
 mul-put-step : tie.Need-mul-put-step Inv-loop μ-loop
 mul-put-step c = search needs
@@ -50,7 +55,7 @@ loop-again c =
     let p = c .before .before in
     let l = p .before .before .before .before .loop in
     let a = p .before .before .before .before .before .before .before .args in
-    (search needs, one-step-more (a .state) (answerAt (now (a .rows)) (a .state)) (l .letter) (l .inv .1) (p .put-step .ensures))
+    (search needs, put-one-more (steps (a .state) (now (a .rows))) (l .letter) (l .inv .1) (p .put-step .ensures))
 
 same-length : tie.Need-same-length Inv-loop μ-loop
 same-length c = c .before .loop .inv .1 .size

@@ -1,15 +1,16 @@
 -- `put_step` meets its contract: its parts one behind another. Assumes nothing.
+use mathlib.Core.Path.{_∙_}
 use borrow.Author.Needs.{needs}
 use Rattle.printing.proofs.Putting.{prints-put, put-then, put-is}
-use Rattle.listing.proofs.Printing.{step-text}
+use Rattle.listing.proofs.Printing.{mark-word, step-text}
 use Rattle.listing.proofs.print.put_step.Statement.{statement}
 use Rattle.listing.proofs.print.put_step.Tie as tie
 
 letter-byte-requires : tie.Need-letter-byte-requires
 letter-byte-requires c κs = search needs
 
-mark-of-requires : tie.Need-mark-of-requires
-mark-of-requires c κs = search needs
+fence-mark-requires : tie.Need-fence-mark-requires
+fence-mark-requires c κs = search needs
 
 next-of-requires : tie.Need-next-of-requires
 next-of-requires c κs = search needs
@@ -42,7 +43,7 @@ returns c =
     let letter = mark .before in
     let a = letter .before .before .args in
     put-is
-    (step-text (a .state) (a .letter) (a .word) _ _ _ (letter .letter-byte .ensures) (mark .mark-of .ensures) (next .next-of .ensures))
+    (step-text (a .state) (a .letter) (a .word) _ _ _ (letter .letter-byte .ensures) (mark .fence-mark .ensures ∙ mark-word (a .word)) (next .next-of .ensures))
     (put-then (prints-put (state .put-decimal .ensures)) (put-then (prints-put (middle .put .ensures)) (end .put-number-line .ensures)))
 
 pub put-step-spec : {M : Type 1} → statement M
@@ -50,7 +51,7 @@ put-step-spec =
     tie.close
     (tie.spec
     letter-byte-requires
-    mark-of-requires
+    fence-mark-requires
     next-of-requires
     put-decimal-requires
     slice-aggregate-put
