@@ -1,0 +1,2 @@
+-- What serves the crate's private functions and their proofs alone. A reader need not believe it.
+pub mod Edges

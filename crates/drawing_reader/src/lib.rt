@@ -1,0 +1,2 @@
+// From a drawing back to the machine's image.
+pub mod edges;
