@@ -1,2 +1,3 @@
-// From a drawing back to the machine's image.
+// A drawing read back: from its text to the image of the machine that it draws.
+mod decimal;
 pub mod edges;

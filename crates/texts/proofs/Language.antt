@@ -147,6 +147,20 @@ module _ (L M : Language) where
       seq-on k s
       (first-decides (λ _. L) (λ _. M) s (λ n _. none n) (λ _. some) k (longest-iff L (Any {A = Unit} (λ _. L)) (λ t x. (tt, x)) (λ t x. x .1) s k h))
 
+-- a choice that the first byte has settled: texts of the other form begin with other bytes
+module _ (L M : Language) (s : List ℕ) (P : ℕ → Type 0) (begin : (a : List ℕ) → M a → P (getD a 0 0)) (apart : P (getD s 0 0) → ⊥) where
+  most : (k : ℕ) → Longest L s k → (j : ℕ) → j ≤ length s → (rest : List ℕ) → Or L M (take j s ++ rest) → j ≤ k
+  most k h j lj rest (inl a) = h .longest j lj (rest, a)
+  most k h zero lj rest (inr b) = omega arith
+  most k h (suc j) lj rest (inr b) = absurd (apart (subst P (first-begun s rest (suc j) (omega arith) lj) (begin _ b)))
+
+  pub longest-first : (k : ℕ) → Longest L s k → Longest (Or L M) s k
+  longest-first k h = record {
+    within = h .within;
+    begins = (h .begins .0, inl (h .begins .1));
+    longest = (λ j lj b. most k h j lj (b .0) (b .1));
+  }
+
 -- there is one longest beginning
 pub longest-one : (L : Language) (t : List ℕ) (j k : ℕ) → Longest L t j → Longest L t k → j ≡ k
 longest-one L t j k a b = le-antisymm (b .longest j (a .within) (a .begins)) (a .longest k (b .within) (b .begins))
@@ -204,27 +218,16 @@ module _ {A : Type 0} (refuse : ℕ → A) where
     e,
   )
 
-  -- a choice that the first byte has settled: texts of the other form begin with another byte
-  module _ (L M : Language) (s : List ℕ) (at : ℕ) (r : A) (other : ℕ) (begin : (a : List ℕ) → M a → getD a 0 0 ≡ other)
-      (apart : getD s 0 0 ≡ other → ⊥) where
-    most : (k : ℕ) → Longest L s k → (j : ℕ) → j ≤ length s → (rest : List ℕ) → Or L M (take j s ++ rest) → j ≤ k
-    most k h j lj rest (inl a) = h .longest j lj (rest, a)
-    most k h zero lj rest (inr b) = omega arith
-    most k h (suc j) lj rest (inr b) = absurd (apart (sym (first-begun s rest (suc j) (omega arith) lj) ∙ begin _ b))
-
+  -- a choice that the first byte has settled
+  module _ (L M : Language) (s : List ℕ) (at : ℕ) (r : A) (P : ℕ → Type 0) (begin : (a : List ℕ) → M a → P (getD a 0 0))
+      (apart : P (getD s 0 0) → ⊥) where
     none : (L s → ⊥) → Or L M s → ⊥
     none no-first (inl a) = no-first a
     none no-first (inr b) = apart (begin s b)
 
     pub judged-first : Judged refuse L s at r → Judged refuse (Or L M) s at r
     judged-first (inl a) = inl (inl a)
-    judged-first (inr (k, h, no-first, e)) =
-        let whole : Longest (Or L M) s k = record {
-          within = h .within;
-          begins = (h .begins .0, inl (h .begins .1));
-          longest = (λ j lj b. most k h j lj (b .0) (b .1));
-        } in
-        inr (k, whole, none no-first, e)
+    judged-first (inr (k, h, no-first, e)) = inr (k, longest-first L M s P begin apart k h, none no-first, e)
 
     pub judged-second : Judged refuse L s at r → Judged refuse (Or M L) s at r
     judged-second h = judged-iff (Or L M) (Or M L) (swap L M) (swap M L) s at r (judged-first h)

@@ -1,15 +1,24 @@
 -- Parts that tell something, put together: each law follows from how far a text can be followed over one part and then another. Assumes nothing.
-use Prim.Native.Nat.{ℕ, zero, suc, _+_, _-_, _≤_, _<_, zero-le}
+use Prim.Native.Nat.{ℕ, zero, suc, _+_, _-_, _≤_, _<_, zero-le, suc-le-suc}
 use mathlib.Core.Path.{_≡_, refl, sym, ap, ap₂, _∙_, subst}
-use mathlib.Core.List.{List, [], _∷_, _++_, append-nil}
+use mathlib.Core.List.{List, [], _∷_, _++_, append-nil, append-assoc}
+use mathlib.Core.Logic.{inl, inr}
 use native.Mathlib.Omega.{arith}
-use native.Mathlib.Nat.{add-zero, add-assoc}
+use native.Mathlib.Nat.{add-zero, add-assoc, le-of-suc-le-suc}
+use native.Mathlib.Numerals.{add-one}
 use native.Mathlib.Decide.{decLt, ℕ-discrete}
-use lib.ListN.{length, take, drop, length-drop}
-use lib.Seq.{take-add, take-append-le, take-take, drop-drop, drop-at, take-length, length-take-le}
-use Rattle.texts.specs.Language.{Language, Begins, Longest, Seq, Telling, Any, SeqOn, Some, Unique}
-use Rattle.texts.specs.Telling.{Then, Through, Items, Taken, took, stopped, Finds, finds, departs}
-use Rattle.texts.proofs.Language.{seq-join, length-begun, longest-one, longest-iff, next-decides, first-decides}
+use lib.Dec.{T}
+use lib.ListN.{length, take, drop, getD, length-append, length-drop, take-append-drop}
+use lib.Seq.{take-add, take-append-le, take-take, drop-drop, drop-at, drop-cons, take-at, take-length, length-take-le}
+use Rattle.ground.specs.Bytes.{nameByte}
+use Rattle.texts.specs.Language.{Language, Begins, Longest, Seq, Telling, Any, SeqOn, Or, Some, Unique, Reads, found, stuck, shift}
+use Rattle.texts.specs.declared.Step.{Step}
+use Rattle.texts.specs.Pattern.{Follows, isWord, followAt}
+use Rattle.texts.specs.NamePart.{NameFormed, Ended, nameRun, nameAt}
+use Rattle.texts.specs.Telling.{Then, Through, Items, Either, After, Word, Named, wordTaken, nameTaken, Taken, took, stopped, Finds, finds, departs}
+use Rattle.texts.proofs.Language.{seq-join, length-begun, longest-one, longest-iff, longest-first, next-decides, first-decides}
+use Rattle.texts.proofs.Pattern.{same-word, own-word, reads-follow}
+use Rattle.texts.proofs.NamePart.{free-ended, reads-name, run-whole, some-name}
 
 -- what stands behind the first i of the first n bytes
 drop-take : (i n : ℕ) (s : List ℕ) → i ≤ n → n ≤ length s → drop i (take n s) ≡ take (n - i) (drop i s)
@@ -161,6 +170,185 @@ module _ {A : Type 0} (item : ℕ → Telling A) where
     pub items-stop : ((i : ℕ) → Unique (item i)) → ((i : ℕ) → Some (Any (item i))) → (n all : ℕ) → n < all → {p q : ℕ} {values : List A}
         → Finds (Items item n) t at (took p values) → Finds (item n) t p (stopped q) → Finds (Items item all) t at (stopped q)
     items-stop u some n all l so-far h = items-longer some (suc n) all (omega arith) (items-stuck u n so-far h)
+
+-- a first byte, of which P holds as it does not of none
+first-of : (P : ℕ → Type 0) → (P 0 → ⊥) → (m : ℕ) (s : List ℕ) → P (getD (take m s) 0 0) → P (getD s 0 0)
+first-of P not zero s p = absurd (not p)
+first-of P not (suc m) [] p = p
+first-of P not (suc m) (b ∷ s) p = p
+
+-- a choice: the parts begin with different bytes, of which P holds for the one and Q for the other
+module _ {A : Type 0} (L M : Telling A) where
+  pub unique-either : (P Q : ℕ → Type 0) → (P 0 → ⊥) → (Q 0 → ⊥) → ((b : ℕ) → P b → Q b → ⊥) → ((a : A) (x : List ℕ) → L a x → P (getD x 0 0))
+      → ((a : A) (x : List ℕ) → M a x → Q (getD x 0 0)) → Unique L → Unique M → Unique (Either L M)
+  unique-either P Q np nq apart begin-l begin-m ul um s m n a b lm ln (inl x) (inl y) = ul s m n a b lm ln x y
+  unique-either P Q np nq apart begin-l begin-m ul um s m n a b lm ln (inr x) (inr y) = um s m n a b lm ln x y
+  unique-either P Q np nq apart begin-l begin-m ul um s m n a b lm ln (inl x) (inr y) =
+      absurd (apart _ (first-of P np m s (begin-l a (take m s) x)) (first-of Q nq n s (begin-m b (take n s) y)))
+  unique-either P Q np nq apart begin-l begin-m ul um s m n a b lm ln (inr x) (inl y) =
+      absurd (apart _ (first-of P np n s (begin-l b (take n s) y)) (first-of Q nq m s (begin-m a (take m s) x)))
+
+  pub some-either : Some (Any L) → Some (Any (Either L M))
+  some-either (w, (a, l)) = (w, (a, inl l))
+
+  module _ (t : List ℕ) (at : ℕ) where
+    -- texts of the other part begin with other bytes than what stands here
+    pub either-first : {r : Taken A} (Q : ℕ → Type 0) → (Q 0 → ⊥) → ((a : A) (x : List ℕ) → M a x → Q (getD x 0 0)) → (Q (getD (drop at t) 0 0) → ⊥)
+        → Finds L t at r → Finds (Either L M) t at r
+    either-first Q not begin apart (finds e ln l) = finds e ln (inl l)
+    either-first Q not begin apart (departs {k = k} e h none) = departs e (longest-iff _ _ to back s k (longest-first (Any L) (Any M) s Q first apart k h)) neither
+      where
+        s : List ℕ
+        s = drop at t
+
+        first : (x : List ℕ) → Any M x → Q (getD x 0 0)
+        first x (a, m) = begin a x m
+
+        to : (x : List ℕ) → Or (Any L) (Any M) x → Any (Either L M) x
+        to x (inl (a, l)) = (a, inl l)
+        to x (inr (a, m)) = (a, inr m)
+
+        back : (x : List ℕ) → Any (Either L M) x → Or (Any L) (Any M) x
+        back x (a, inl l) = inl (a, l)
+        back x (a, inr m) = inr (a, m)
+
+        neither : (n : ℕ) (a : A) → n ≤ length s → Either L M a (take n s) → ⊥
+        neither n a ln (inl l) = none n a ln l
+        neither n a ln (inr m) = apart (first-of Q not n s (begin a (take n s) m))
+
+swapped : {A : Type 0} (L M : Telling A) (a : A) (x : List ℕ) → Either L M a x → Either M L a x
+swapped L M a x (inl l) = inr l
+swapped L M a x (inr m) = inl m
+
+-- the same from the other side
+pub either-second : {A : Type 0} (L M : Telling A) (t : List ℕ) (at : ℕ) {r : Taken A} (P : ℕ → Type 0) → (P 0 → ⊥)
+    → ((a : A) (x : List ℕ) → L a x → P (getD x 0 0)) → (P (getD (drop at t) 0 0) → ⊥) → Finds M t at r → Finds (Either L M) t at r
+either-second L M t at P not begin apart h = by (either-first M L t at P not begin apart h)
+  where
+    by : {r : Taken _} → Finds (Either M L) t at r → Finds (Either L M) t at r
+    by (finds e ln x) = finds e ln (swapped M L _ _ x)
+    by (departs {k = k} e h none) =
+        departs e
+        (longest-iff (Any (Either M L)) (Any (Either L M)) (λ x y. (y .0, swapped M L (y .0) x (y .1))) (λ x y. (y .0, swapped L M (y .0) x (y .1))) (drop at t) k h)
+        (λ n a ln x. none n a ln (swapped L M a _ x))
+
+-- what is left of a part behind the byte with which all its texts begin
+module _ {A : Type 0} (b : ℕ) (L : Telling A) where
+  pub unique-after : Unique L → Unique (After b L)
+  unique-after u s m n x y lm ln p q =
+      let same = u (b ∷ s) (suc m) (suc n) x y (suc-le-suc lm) (suc-le-suc ln) p q in
+      (omega (arith, same .0), same .1)
+
+  module _ (begin : (a : A) (x : List ℕ) → L a x → (y : List ℕ) × (x ≡ b ∷ y)) where
+    pub some-after : Some (Any L) → Some (Any (After b L))
+    some-after (w, (a, l)) = let f = begin a w l in (f .0, (a, subst (L a) (f .1) l))
+
+    pub finds-after : Some (Any L) → (t : List ℕ) (at : ℕ) {r : Taken A} → at < length t → getD t at 0 ≡ b → Finds L t at r
+        → Finds (After b L) t (at + 1) r
+    finds-after (w, (c, lw)) t at l is h = by h
+      where
+        s : List ℕ
+        s = drop (at + 1) t
+
+        cons : drop at t ≡ b ∷ s
+        cons = drop-cons t at 0 l ∙ ap₂ (λ (x : ℕ) (i : ℕ). x ∷ drop i t) is (sym (add-one at))
+
+        long : length (drop at t) ≡ suc (length s)
+        long = ap length cons
+
+        -- the first byte begins a text of the part
+        one : (k : ℕ) → Longest (Any L) (drop at t) k → 1 ≤ k
+        one k h =
+            let f = begin c w lw in
+            h .longest 1 (omega (arith, long)) (f .0, (c, subst (λ (x : List ℕ). L c (take 1 x ++ f .0)) (sym cons) (subst (L c) (f .1) lw)))
+
+        none-empty : (a : A) → L a [] → ⊥
+        none-empty a l = by-nil (begin a [] l)
+          where
+            by-nil : (y : List ℕ) × (_≡_ {A = List ℕ} [] (b ∷ y)) → ⊥
+            by-nil (y, e) = let bad : _≡_ {A = ℕ} 0 (suc (length y)) = ap length e in omega arith
+
+        found : (n : ℕ) {p : ℕ} {a : A} → p ≡ at + n → n ≤ length (drop at t) → L a (take n (b ∷ s)) → Finds (After b L) t (at + 1) (took p a)
+        found zero {a = a} e ln x = absurd (none-empty a x)
+        found (suc n) {p = p} e ln x = finds {n = n} {p = p} (omega arith) (omega (arith, long)) x
+
+        stop : (k : ℕ) {p : ℕ} → p ≡ at + k → Longest (Any L) (b ∷ s) k → 1 ≤ k
+            → ((n : ℕ) (a : A) → n ≤ length (drop at t) → L a (take n (drop at t)) → ⊥) → Finds (After b L) t (at + 1) (stopped p)
+        stop zero e h some none = absurd (omega arith)
+        stop (suc k) {p = p} e h some none =
+            departs {k = k} {p = p} (omega arith)
+            record {
+              within = le-of-suc-le-suc (h .within);
+              begins = h .begins;
+              longest = (λ j lj x. le-of-suc-le-suc (h .longest (suc j) (suc-le-suc lj) x));
+            }
+            (λ n a ln x. none (suc n) a (omega (arith, long)) (subst (λ (z : List ℕ). L a (take (suc n) z)) (sym cons) x))
+
+        by : {r : Taken A} → Finds L t at r → Finds (After b L) t (at + 1) r
+        by (finds {n = n} {a = a} e ln x) = found n e ln (subst (λ (z : List ℕ). L a (take n z)) cons x)
+        by (departs {k = k} e h none) = stop k e (subst (λ (z : List ℕ). Longest (Any L) z k) cons h) (one k h) none
+
+-- words
+module _ (w : List ℕ) where
+  pub unique-word : Unique (Word w)
+  unique-word s m n a b lm ln x y = (sym (length-take-le m s lm) ∙ ap length (x ∙ sym y) ∙ length-take-le n s ln, refl)
+
+  pub some-word : Some (Any (Word w))
+  some-word = (w, (tt, refl))
+
+  pub finds-word : (t : List ℕ) (at : ℕ) → T (isWord w) → Finds (Word w) t at (wordTaken (followAt w t at))
+  finds-word t at word = by (reads-follow w (drop at t))
+    where
+      own : (x : List ℕ) → x ≡ w → Follows w x
+      own x e = subst (Follows w) (sym e) (own-word w word)
+
+      by : {r : Step} → Reads (Follows w) (drop at t) r → Finds (Word w) t at (wordTaken (shift at r))
+      by (found ln f) = finds refl ln (same-word w _ word f)
+      by (stuck {k = k} h none) =
+          departs refl (longest-iff (Follows w) (Any (Word w)) (λ x f. (tt, same-word w x word f)) (λ x e. own x (e .1)) (drop at t) k h)
+          (λ n _ ln e. none n ln (own _ e))
+
+-- names
+module _ (e : ℕ) (not-name : T (nameByte e) → ⊥) where
+  pub unique-named : Unique (Named e)
+  unique-named s m n a b lm ln (fa, ea) (fb, eb) = (same, names)
+    where
+      same : m ≡ n
+      same = free-ended e not-name s m n lm ln (a, fa, ea) (b, fb, eb)
+
+      whole : a ++ (e ∷ []) ≡ b ++ (e ∷ [])
+      whole = sym ea ∙ ap (λ (i : ℕ). take i s) same ∙ eb
+
+      long : length a ≡ length b
+      long = omega (arith, ap length whole, length-append a (e ∷ []), length-append b (e ∷ []))
+
+      names : a ≡ b
+      names = sym (take-at a (e ∷ []) (length a) refl) ∙ ap (take (length a)) whole ∙ take-at b (e ∷ []) (length a) (sym long)
+
+  pub finds-name : (t : List ℕ) (at : ℕ) → Finds (Named e) t at (nameTaken t at (nameAt e t at))
+  finds-name t at = by (reads-name e not-name s)
+    where
+      s : List ℕ
+      s = drop at t
+
+      by : {r : Step} → Reads (Ended e) s r → Finds (Named e) t at (nameTaken t at (shift at r))
+      by (found {n = m} lm (n, f, is)) = finds refl lm (subst NameFormed told f, is ∙ ap (λ (x : List ℕ). x ++ (e ∷ [])) told)
+        where
+          regroup : s ≡ n ++ (e ∷ drop m s)
+          regroup = sym (take-append-drop m s) ∙ ap (λ (x : List ℕ). x ++ drop m s) is ∙ append-assoc n (e ∷ []) (drop m s)
+
+          told : n ≡ take (nameRun 16 s) s
+          told =
+              sym (take-at n (e ∷ drop m s) (length n) refl)
+              ∙ ap₂ (λ (i : ℕ) (x : List ℕ). take i x)
+              (sym (ap (nameRun 16) regroup ∙ run-whole 16 n (drop m s) e (f .bytes) (f .few) not-name))
+              (sym regroup)
+      by (stuck {k = k} h none) =
+          departs refl (longest-iff (Ended e) (Any (Named e)) (λ x (n, f, is). (n, (f, is))) (λ x (n, (f, is)). (n, f, is)) s k h)
+          (λ n a ln (f, is). none n ln (a, f, is))
+
+pub some-named : (e : ℕ) → Some (Any (Named e))
+some-named e = let n = some-name e in (n .0, (n .1 .0, (n .1 .1, n .1 .2)))
 
 -- two answers about one part are one
 pub finds-one : {A : Type 0} (L : Telling A) → Unique L → (t : List ℕ) (at : ℕ) {r r′ : Taken A} → Finds L t at r → Finds L t at r′ → r ≡ r′
