@@ -1,2 +1,3 @@
 pub mod Following
 pub mod Marks
+pub mod EdgeParts

@@ -1,10 +1,11 @@
 // The edges of a drawing: a word for each state and letter, read into rows.
 ghost use Prim.Native.Nat.{ℕ, _*_, _≤_, _<_};
 ghost use mathlib.Core.Path.{_≡_};
+ghost use lib.Dec.{T};
 ghost use lib.ListN.{length};
 ghost use Rattle.operations.specs.Alphabet.{stride};
-ghost use Rattle.texts.specs.Pattern.{followAt};
-ghost use Rattle.texts.specs.Telling.{Finds, partTaken};
+ghost use Rattle.texts.specs.Pattern.{isWord, followAt};
+ghost use Rattle.texts.specs.Telling.{Through, Word, Finds, partTaken};
 ghost use Rattle.drawing_reader.specs.inner.Edges.{fenceNumber, middle, MarkPart, RefusedLabel, Refused, Marked, LedLabel, Led, EdgeEnd, EdgePart, Shaped, ReadsRow, ReadsRows};
 use operations::Byte;
 use operations::Operation;
@@ -60,4 +61,57 @@ fn label_part(text: &[u8], at: usize, letter: usize) -> Step
     let byte = alphabet::letter_byte(letter);
     let word = [b'[', b'l', b'a', b'b', b'e', b'l', b'=', b'"', byte, b' '];
     texts::follow(text, at, &word)
+}
+
+// A word, which comes last and gives a value to what was read.
+fn value_behind<'a>(text: &'a [u8], at: usize, word: &'a [u8], value: usize) -> Part
+    requires { ⌜ T (isWord (now word)) ⌝ }
+    ensures { λ r. ⌜ Finds (Through (λ _. value) (Word (now (word .entry)))) (now (text .entry)) at (partTaken r) ⌝ }
+{
+    match texts::follow(text, at, word) {
+        Step::Stuck(place) => Part::Stuck(place),
+        Step::Next(past) => Part::Next(past, value),
+    }
+}
+
+// Behind `refused `.
+fn refused_label(text: &[u8], at: usize, letter: usize) -> Part
+    ensures { λ r. ⌜ Finds (RefusedLabel letter) (now (text .entry)) at (partTaken r) ⌝ }
+{
+    match label_part(text, at, letter) {
+        Step::Stuck(place) => Part::Stuck(place),
+        Step::Next(mark_at) => value_behind(text, mark_at, b"!\"];\n", 256 * 254),
+    }
+}
+
+// Behind the arrow, of a refused operation.
+fn refused_end(text: &[u8], at: usize, letter: usize) -> Part
+    ensures { λ r. ⌜ Finds (Refused letter) (now (text .entry)) at (partTaken r) ⌝ }
+{
+    match texts::follow(text, at, b"refused ") {
+        Step::Stuck(place) => Part::Stuck(place),
+        Step::Next(label) => refused_label(text, label, letter),
+    }
+}
+
+// From the mark on, of an operation that leads to a state.
+fn marked(text: &[u8], at: usize, marks: usize, next: usize) -> Part
+    requires { ⌜ (marks ≤ 16) × (next < 256) ⌝ }
+    ensures { λ r. ⌜ Finds (Marked marks next) (now (text .entry)) at (partTaken r) ⌝ }
+{
+    match mark(text, at, marks) {
+        Part::Stuck(place) => Part::Stuck(place),
+        Part::Next(past, fence) => value_behind(text, past, b"\"];\n", 256 * fence + next),
+    }
+}
+
+// Behind the state.
+fn led_label(text: &[u8], at: usize, marks: usize, letter: usize, next: usize) -> Part
+    requires { ⌜ (marks ≤ 16) × (next < 256) ⌝ }
+    ensures { λ r. ⌜ Finds (LedLabel marks letter next) (now (text .entry)) at (partTaken r) ⌝ }
+{
+    match label_part(text, at, letter) {
+        Step::Stuck(place) => Part::Stuck(place),
+        Step::Next(mark_at) => marked(text, mark_at, marks, next),
+    }
 }
