@@ -1,1 +1,1 @@
-// A machine's image drawn in the DOT graph language.
+mod print;

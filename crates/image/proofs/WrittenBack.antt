@@ -1,5 +1,5 @@
--- What is read from an image is written back as the image itself: writing what was read gives the bytes back, and the call's own rows have
--- room. Assumes nothing.
+-- What is read from an image, into rows that have room for any machine, is the machine of the image, and is written back as the image itself.
+-- Assumes nothing.
 use Prim.Native.Nat.{ℕ, _*_, _<_, _≤_}
 use mathlib.Core.Path.{_≡_, refl, sym, ap, ap₂, _∙_}
 use mathlib.Core.List.{List, [], _∷_}
@@ -46,7 +46,7 @@ module _ (image : List ℕ) (bytes : (i : ℕ) → at image i < 256) where
       (take-at (rowsOf image) (drop (length (rowsOf image)) rows) (statesOf image * stride) (length-rows image))
 
   module _ (r : Reading) (rows′ : List ℕ) (reads : ReadsTo image rows r rows′) where
-    verdict-is : r .verdict ≡ verdictOf image
+    pub verdict-is : r .verdict ≡ verdictOf image
     verdict-is = ap (λ (x : Reading). x .verdict) (reads .reading) ∙ verdict-kept (verdictOf image)
 
     pub back-refused : (why : Refusal) (out : List ℕ) → r .verdict ≡ Verdict.Refused why → Delivers (writtenBack image) out (Answer.Refused why) out
@@ -54,23 +54,24 @@ module _ (image : List ℕ) (bytes : (i : ℕ) → at image i < 256) where
     back-refused why out v = delivers-as (ap (λ (v : Verdict). unlessRefused v (gives image 0 0)) (sym v ∙ verdict-is)) (delivers-refusal out)
 
     module _ (v : r .verdict ≡ Verdict.Accepted) where
-      accepted : verdictOf image ≡ Verdict.Accepted
+      pub accepted : verdictOf image ≡ Verdict.Accepted
       accepted = sym verdict-is ∙ v
 
-      header-is : r .header ≡ headerOf image
+      pub header-is : r .header ≡ headerOf image
       header-is =
           ap (λ (x : Reading). x .header) (reads .reading) ∙ ap (λ (w : Verdict). readAs image (length rows) w .header) accepted
           ∙ accepted-header
 
+      pub rows-are : (n : ℕ) → n ≡ r .header .states → take (n * stride) rows′ ≡ rowsOf image
+      unfolding headerOf
+      rows-are n e =
+          ap₂ (λ (k : ℕ) (l : List ℕ). take (k * stride) l) (e ∙ ap (λ (h : Header). h .states) header-is)
+          (reads .filled ∙ ap (rowsAs image rows) accepted)
+          ∙ accepted-rows
+
       -- the image of the words that were read
       same-image : (n : ℕ) → n ≡ r .header .states → imageOf (r .header) (take (n * stride) rows′) ≡ image
-      unfolding headerOf
-      same-image n e =
-          ap₂ imageOf header-is
-          (ap₂ (λ (k : ℕ) (l : List ℕ). take (k * stride) l) (e ∙ ap (λ (h : Header). h .states) header-is)
-          (reads .filled ∙ ap (rowsAs image rows) accepted)
-          ∙ accepted-rows)
-          ∙ written-read image bytes accepted
+      same-image n e = ap₂ imageOf header-is (rows-are n e) ∙ written-read image bytes accepted
 
       pub back-accepted : (n : ℕ) (out out′ : List ℕ) (a : Answer) → n ≡ r .header .states
           → Delivers (gives (imageOf (r .header) (take (n * stride) rows′)) 0 0) out a out′ → Delivers (writtenBack image) out a out′

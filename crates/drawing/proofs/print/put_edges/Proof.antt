@@ -1,0 +1,65 @@
+-- `put_edges` meets its contract: after so many states their edges stand there. Assumes nothing.
+use Prim.Native.Nat.{_-_, _≤_}
+use mathlib.Core.Path.{_≡_, ap}
+use native.Mathlib.Omega.{arith}
+use borrow.Author.Needs.{needs}
+use denote.Ref.{now}
+use Rattle.printing.specs.Putting.{Put}
+use Rattle.printing.specs.Turns.{inTurn}
+use Rattle.printing.proofs.Putting.{put-is}
+use Rattle.printing.proofs.Turns.{put-no-turn, put-one-more}
+use Rattle.drawing.specs.Drawing.{stateEdges}
+use Rattle.drawing.proofs.print.put_edges.Statement.{statement}
+use Rattle.drawing.proofs.print.put_edges.Tie as tie
+
+abbrev Inv-loop : tie.InvT-loop
+Inv-loop buffer₀ at rows letters states here₀ state₀ buffer here state =
+    (state ≤ states) × Put buffer₀ buffer at here (inTurn (stateEdges letters rows) state)
+
+abbrev μ-loop : tie.MeasureT-loop
+μ-loop buffer₀ at rows letters states here₀ state₀ buffer here state = states - state
+
+loop-holds : tie.Need-loop-holds Inv-loop μ-loop
+loop-holds c =
+    let a = c .before .before .args in
+    (search needs, put-no-turn (stateEdges (a .letters) (now (a .rows))))
+
+put-state-requires : tie.Need-put-state-requires Inv-loop μ-loop
+put-state-requires c κs = search needs
+
+add-state : tie.Need-add-state Inv-loop μ-loop
+add-state c = search needs
+
+loop-less : tie.Need-loop-less Inv-loop μ-loop
+loop-less c = search needs
+
+loop-again : tie.Need-loop-again Inv-loop μ-loop
+loop-again c =
+    let p = c .before .before in
+    let l = p .before .before .before .loop in
+    let a = p .before .before .before .before .before .before .args in
+    (search needs, put-one-more (stateEdges (a .letters) (now (a .rows))) (l .state) (l .inv .1) (p .put-state .ensures))
+
+same-length : tie.Need-same-length Inv-loop μ-loop
+same-length c = c .before .loop .inv .1 .size
+
+returns : tie.Need-returns Inv-loop μ-loop
+returns c =
+    let a = c .before .before .before .before .args in
+    let l = c .before .loop in
+    let all : l .state ≡ a .states = omega arith in
+    put-is (ap (inTurn (stateEdges (a .letters) (now (a .rows)))) all) (l .inv .1)
+
+pub put-edges-spec : {M : Type 1} → statement M
+put-edges-spec =
+    tie.close
+    (tie.spec
+    Inv-loop
+    μ-loop
+    loop-holds
+    put-state-requires
+    add-state
+    loop-less
+    loop-again
+    same-length
+    returns)
