@@ -7,6 +7,7 @@ ghost use Rattle.operations.specs.Alphabet.{stride};
 ghost use Rattle.texts.specs.Pattern.{isWord, followAt};
 ghost use Rattle.texts.specs.Telling.{Through, Word, Finds, partTaken};
 ghost use Rattle.drawing_reader.specs.inner.Edges.{fenceNumber, middle, MarkPart, RefusedLabel, Refused, Marked, LedLabel, Led, EdgeEnd, EdgePart, Shaped, ReadsRow, ReadsRows};
+use crate::decimal;
 use operations::Byte;
 use operations::Operation;
 use operations::alphabet;
@@ -113,5 +114,41 @@ fn led_label(text: &[u8], at: usize, marks: usize, letter: usize, next: usize) -
     match label_part(text, at, letter) {
         Step::Stuck(place) => Part::Stuck(place),
         Step::Next(mark_at) => marked(text, mark_at, marks, next),
+    }
+}
+
+// Behind the arrow, of an operation that leads to a state.
+fn led_end(text: &[u8], at: usize, states: u8, marks: usize, letter: usize) -> Part
+    requires { ⌜ (1 ≤ states) × (marks ≤ 16) ⌝ }
+    ensures { λ r. ⌜ Finds (Led states marks letter) (now (text .entry)) at (partTaken r) ⌝ }
+{
+    match texts::number(text, at, states, b' ') {
+        Part::Stuck(place) => Part::Stuck(place),
+        Part::Next(label, next) => led_label(text, label, marks, letter, next),
+    }
+}
+
+// Behind the arrow. Where the edge of an access leads its first byte tells: no number begins as `refused` does.
+fn edge_end(text: &[u8], at: usize, shape: Shape, letter: usize) -> Part
+    requires { ⌜ Shaped shape ⌝ }
+    ensures { λ r. ⌜ Finds (EdgeEnd shape letter) (now (text .entry)) at (partTaken r) ⌝ }
+{
+    if ACCESSES <= letter {
+        return led_end(text, at, shape.states, 0, letter);
+    }
+    if ground::byte_at(text, at) == b'r' {
+        return refused_end(text, at, letter);
+    }
+    led_end(text, at, shape.states, shape.targets, letter)
+}
+
+// The edge of a state and a letter: its word.
+fn edge(text: &[u8], at: usize, shape: Shape, state: usize, letter: usize) -> Part
+    requires { ⌜ Shaped shape ⌝ }
+    ensures { λ r. ⌜ Finds (EdgePart shape state letter) (now (text .entry)) at (partTaken r) ⌝ }
+{
+    match decimal::follow_decimal(text, at, state, b" -> ") {
+        Step::Stuck(place) => Part::Stuck(place),
+        Step::Next(past) => edge_end(text, past, shape, letter),
     }
 }

@@ -90,9 +90,10 @@ abbrev pub rowsTaken : ℕ → List ℕ → ℕ → Step → Taken (List (List �
 rowsTaken letters rows states (Step.Next p) = took p (rowsTold letters rows states)
 rowsTaken letters rows states (Step.Stuck p) = stopped p
 
--- a machine's shape has at most so many letters and fences
+-- a machine's shape: at least one state, and no more of anything than an image can hold
 pub record Shaped (sh : Shape) : Type 0 where
   pub some : 1 ≤ sh .states
+  pub states : sh .states ≤ 255
   pub letters : sh .letters ≤ stride
   pub targets : sh .targets ≤ 16
 

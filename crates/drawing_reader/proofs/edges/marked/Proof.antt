@@ -1,4 +1,5 @@
 -- `marked` meets its contract: the mark decides, and then the rest. Assumes nothing.
+use native.Mathlib.Omega.{arith}
 use Rattle.drawing_reader.proofs.EdgeParts.{fence-small, marked-stops, marked-goes}
 use borrow.Author.Needs.{needs}
 use Rattle.drawing_reader.proofs.edges.marked.Statement.{statement}
@@ -17,10 +18,10 @@ slice-aggregate-value-behind : tie.Need-slice-aggregate-value-behind
 slice-aggregate-value-behind c = search needs
 
 mul-value-behind : tie.Need-mul-value-behind
-mul-value-behind c = search (fence-small, needs)
+mul-value-behind c = omega (arith, fence-small _ 0 (c .before .before .before .before .mark .ensures) (omega arith) (c .before .before .past .given .1))
 
 add-value-behind : tie.Need-add-value-behind
-add-value-behind c = search (fence-small, needs)
+add-value-behind c = omega (arith, fence-small _ 0 (c .before .before .before .before .mark .ensures) (omega arith) (c .before .before .past .given .1))
 
 value-behind-requires : tie.Need-value-behind-requires
 value-behind-requires c κs = search needs

@@ -14,7 +14,7 @@ enum-known-past : tie.Need-enum-known-past
 enum-known-past c = search needs
 
 returns : tie.Need-returns
-returns c = search (last-stops, needs)
+returns c = last-stops _ (c .before .before .before .before .before .before .pre) (c .before .before .before .follow .ensures) _ (c .before .place .given .1)
 
 returns-2 : tie.Need-returns-2
 returns-2 c = search (last-goes, needs)
