@@ -1,3 +1,5 @@
 pub mod Following
 pub mod Words
 pub mod NodeLines
+pub mod Marks
+pub mod EdgeParts
