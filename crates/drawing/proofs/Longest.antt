@@ -84,13 +84,13 @@ label-length h rows m =
       length-digits 1 (h .targets) (omega (arith, m .targets)),
     )
 
-nodes-length : (k : ℕ) → length (inTurn nodeLine k) ≡ length (inTurn decimal k) + 2 * k
+pub nodes-length : (k : ℕ) → length (inTurn nodeLine k) ≡ length (inTurn decimal k) + 2 * k
 unfolding inTurn
 nodes-length zero = refl
 nodes-length (suc k) =
     omega (arith, length-turn nodeLine k, length-turn decimal k, length-append (decimal k) (bytes ";\n"), nodes-length k)
 
-edge-length : (s a w : ℕ) → length (edgeLine s a w) ≡ length (decimal s) + 20 + length (leadsTo w)
+pub edge-length : (s a w : ℕ) → length (edgeLine s a w) ≡ length (decimal s) + 20 + length (leadsTo w)
 edge-length s a w =
     let rest : List ℕ = bytes " [label=\"" ++ (edgeLabel a w ++ bytes "\"];\n") in
     omega (arith, length-append (decimal s) (bytes " -> " ++ (leadsTo w ++ rest)), length-append (leadsTo w) rest)
