@@ -1,6 +1,6 @@
--- The longest drawing: 15 bytes of the first line, 57 of the label, 1,165 of nodes, 134,480 of edges and 2 of the last line. The numbers of 255 states
--- have 655 digits; a node has 2 bytes and its digits, an edge 20, its state's digits and where it leads, which are at most 7 for an access and 3 for
--- a fence. Assumes nothing.
+-- The longest drawing: 15 bytes of the first line, 57 of the label, 1,165 of nodes, 134,480 of edges and 2 of the last line. The numbers of 255
+-- states have 655 digits; a node has 2 bytes and its digits, an edge 20, its state's digits and where it leads, which are at most 7 for an access and
+-- 3 for a fence. Assumes nothing.
 use Prim.Native.Nat.{ℕ, zero, suc, _+_, _*_, _/_, _%_, _≤_, _<_}
 use mathlib.Core.Path.{_≡_, refl, ap}
 use mathlib.Core.Bool.{Bool, true, false, cond}

@@ -1,16 +1,16 @@
 -- The longest drawing is reached: a machine of the layout, with names of 16 bytes in the sparing way, 255 states and 16 fences on both sides, where
 -- every access is refused and every fence leads to state 254, has a drawing of 135,719 bytes. Assumes nothing.
-use Prim.Native.Nat.{ℕ, zero, suc, _+_, _*_, _/_, _%_, _≤_, _<_}
-use mathlib.Core.Path.{_≡_, refl, sym, ap, _∙_}
-use mathlib.Core.Bool.{true, cond}
-use mathlib.Core.Logic.{inl, inr}
+use Prim.Native.Nat.{ℕ, zero, suc, _+_, _*_, _%_, _≤_, _<_}
+use mathlib.Core.Path.{_≡_, refl, ap, _∙_}
+use mathlib.Core.Bool.{cond}
+use mathlib.Core.Logic.{inl}
 use mathlib.Core.List.{List, _++_}
 use native.Mathlib.Nat.{suc-mul}
 use native.Mathlib.Omega.{arith}
 use borrow.Author.Tests.{lt-ltb, le-ltb}
 use lib.Dec.{ltb}
-use lib.ListN.{length, replicate, length-append}
-use Rattle.ground.specs.Bytes.{bytes, at, nameByte}
+use lib.ListN.{length, replicate, length-append, getD-replicate}
+use Rattle.ground.specs.Bytes.{bytes, nameByte}
 use Rattle.operations.specs.Alphabet.{accessLetters, lettersWith, stride}
 use Rattle.printing.specs.Decimal.{digits, decimal}
 use Rattle.printing.specs.Name.{unfilled}
@@ -18,7 +18,7 @@ use Rattle.printing.specs.Turns.{inTurn}
 use Rattle.printing.proofs.Turns.{length-turn}
 use Rattle.image.specs.declared.machine.Header.{Header}
 use Rattle.image.specs.Image.{listed, word, NameField, Canonical}
-use Rattle.image.proofs.Fronts.{at-listed}
+use Rattle.image.proofs.Fronts.{length-listed, at-listed}
 use Rattle.drawing.specs.Drawing.{labelLine, nodeLine, leadsTo, edgeLine, stateEdges, drawingOf}
 use Rattle.drawing.proofs.Longest.{nodes-length, edge-length, drawing-length}
 
@@ -34,6 +34,10 @@ wordAt a = cond (ltb a accessLetters) (254 * 256) (255 * 256 + 254)
 
 pub longestRows : List ℕ
 longestRows = listed (255 * stride) (λ (j : ℕ). wordAt (j % stride))
+
+pub longest-rows : length longestRows ≡ 255 * stride
+unfolding longestRows
+longest-rows = length-listed _ _
 
 word-is : (s a : ℕ) → s < 255 → a < stride → word longestRows s a ≡ wordAt a
 unfolding longestRows
@@ -53,17 +57,9 @@ name-field = record {
   name = 16;
   some = omega arith;
   few = omega arith;
-  bytes = λ k l. letters k l;
+  bytes = λ k l. ap nameByte (getD-replicate 16 k 97 0 l);
   zeros = λ k g l. absurd (omega arith);
 }
-  where
-    same : (n k : ℕ) → k < n → at (replicate n 97) k ≡ 97
-    same zero k l = absurd (omega arith)
-    same (suc n) zero l = refl
-    same (suc n) (suc k) l = same n k (omega arith)
-
-    letters : (k : ℕ) → k < 16 → nameByte (at name k) ≡ true
-    letters k l = ap nameByte (same 16 k l)
 
 pub longest-machine : Canonical longestHeader longestRows
 longest-machine = record {
@@ -120,10 +116,10 @@ state-least s l =
     omega (
       arith,
       turns-least (λ (a : ℕ). edgeLine s a (word longestRows s a)) accessLetters 16 (d + 27) (d + 23)
-      (λ a k.
+          (λ a k.
           let w : ℕ = word longestRows s a in
           omega (arith, edge-length s a w, ap (λ (x : ℕ). length (leadsTo x)) (access-is s a l k), leads-refused))
-      (λ f k.
+          (λ f k.
           let w : ℕ = word longestRows s (accessLetters + f) in
           omega (arith, edge-length s (accessLetters + f) w, ap (λ (x : ℕ). length (leadsTo x)) (fence-is s f l k), leads-far)),
     )

@@ -7,6 +7,6 @@ use Rattle.answers.specs.Given.{Delivers}
 use Rattle.answers.proofs.Given.{delivers-one}
 use Rattle.drawing.specs.Calls.{drawn}
 
-pub draw-one : (image : List ℕ) {out after after′ : List ℕ} {r r′ : Answer} → Delivers (drawn image) out r after → Delivers (drawn image) out r′ after′
-    → (r ≡ r′) × (after ≡ after′)
+pub draw-one : (image : List ℕ) {out after after′ : List ℕ} {r r′ : Answer} → Delivers (drawn image) out r after
+    → Delivers (drawn image) out r′ after′ → (r ≡ r′) × (after ≡ after′)
 draw-one image = delivers-one refl
