@@ -133,8 +133,8 @@ module _ (h : Header) (rows : List ℕ) (m : Canonical h rows) where
         arith,
         fences,
         turns-more (λ (a : ℕ). edgeLine s a (word rows s a)) accessLetters (h .ups) (d + 27) (d + 23)
-        (λ a _. omega (arith, edge-length s a (word rows s a), leads-length (word rows s a)))
-        (λ f k.
+            (λ a _. omega (arith, edge-length s a (word rows s a), leads-length (word rows s a)))
+            (λ f k.
             let w : ℕ = word rows s (accessLetters + f) in
             omega (arith, edge-length s (accessLetters + f) w, fence-leads-length w (m .fences s f l k .0))),
       )

@@ -1,3 +1,4 @@
 pub mod Following
 pub mod Words
 pub mod NodeLines
+pub mod Labels

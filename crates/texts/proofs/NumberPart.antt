@@ -256,14 +256,14 @@ module _ (bound e : ℕ) where
       by (no other) true hq rest =
           let g : T (goesOn bound v b) = subst T (sym hq) tt in
           let low = below (withDigit v b) bound (both (isDigit b) (not (eqb v 0)) (ltb (withDigit v b) bound) g .2) in
-          tested false true (ne-eqb b e other) hq 
+          tested false true (ne-eqb b e other) hq
           (goes (More v) (none-left v) (More (withDigit v b)) b (λ w t. close v w b t g) (λ w t x. opened v w b t other x .1) s N (rest low))
       by (no other) false hq rest =
           tested false false (ne-eqb b e other) hq
           (stops (More v) (none-left v) (e ∷ [], (v, complete v lv)) (b ∷ s) (λ w c t u is x.
-              let same : b ≡ c = ap (λ (y : List ℕ). getD y 0 0) is in
-              let x′ : More v w (b ∷ u) = subst (λ (i : ℕ). More v w (i ∷ u)) (sym same) x in
-              subst T hq (opened v w b u other x′ .0)))
+          let same : b ≡ c = ap (λ (y : List ℕ). getD y 0 0) is in
+          let x′ : More v w (b ∷ u) = subst (λ (i : ℕ). More v w (i ∷ u)) (sym same) x in
+          subst T hq (opened v w b u other x′ .0)))
 
   -- the first digit
   empty-not : (w : ℕ) → Numbered bound e w [] → ⊥
@@ -312,9 +312,9 @@ module _ (bound e : ℕ) where
       by false hq =
           stops (Numbered bound e) empty-not (some-numbered l) (b ∷ s)
           (λ w c t u is x.
-              let same : b ≡ c = ap (λ (y : List ℕ). getD y 0 0) is in
-              let x′ : Numbered bound e w (b ∷ u) = subst (λ (i : ℕ). Numbered bound e w (i ∷ u)) (sym same) x in
-              subst T hq (first-opened w b u x′ .0))
+          let same : b ≡ c = ap (λ (y : List ℕ). getD y 0 0) is in
+          let x′ : Numbered bound e w (b ∷ u) = subst (λ (i : ℕ). Numbered bound e w (i ∷ u)) (sym same) x in
+          subst T hq (first-opened w b u x′ .0))
 
   pub finds-number : 1 ≤ bound → (t : List ℕ) (at : ℕ) → Finds (Numbered bound e) t at (partTaken (numberAt bound e t at))
   finds-number l t at = by (numberStep bound e (drop at t)) (number-finds l (drop at t))
