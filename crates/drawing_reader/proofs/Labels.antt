@@ -1,8 +1,8 @@
 -- The label's parts: each is found once and can be completed, so what is told behind it decides; and what the texts of labels are.
 -- Assumes nothing.
-use Prim.Native.Nat.{ℕ, _≤_, _<_}
+use Prim.Native.Nat.{ℕ, _≤_}
 use mathlib.Core.Path.{_≡_, refl, sym, ap, ap₂, subst, _∙_}
-use mathlib.Core.List.{List, [], _∷_, _++_, append-assoc}
+use mathlib.Core.List.{List, _++_, append-assoc}
 use mathlib.Core.Logic.{inl, inr}
 use native.Mathlib.Omega.{arith}
 use native.Mathlib.Decide.{ℕ-discrete}
@@ -11,16 +11,16 @@ use lib.ListN.{take, drop, getD, take-append-drop}
 use lib.Seq.{getD-drop}
 use Rattle.ground.specs.Bytes.{bytes}
 use Rattle.texts.specs.Language.{Telling, Any, Seq, Some, Unique}
-use Rattle.texts.specs.NamePart.{NameFormed}
 use Rattle.texts.specs.Telling.{Then, Through, Word, Named, Numbered, Taken, Finds}
 use Rattle.texts.proofs.Language.{seq-join}
 use Rattle.texts.proofs.Telling.{unique-then, some-then, unique-through, some-through, unique-either, some-either, unique-word, some-word}
 use Rattle.texts.proofs.Telling.{unique-named, some-named, either-first, either-second}
 use Rattle.texts.proofs.NumberPart.{unique-numbered, some-numbered}
 use Rattle.printing.specs.Decimal.{decimal}
-use Rattle.drawing.specs.Drawing.{wayWord}
+use Rattle.image.specs.declared.machine.Header.{Header}
+use Rattle.drawing.specs.Drawing.{wayWord, labelLine}
 use Rattle.drawing_reader.specs.inner.Label.{Label, WayPart, LabelEnd, FromTargets, FromUps, FromWay, FromTarget, FromUpstream, LabelPart}
-use Rattle.drawing_reader.specs.inner.Label.{LabelFormed, targetsText, upsText, wayText, namesText, labelText}
+use Rattle.drawing_reader.specs.inner.Label.{LabelFormed, targetsText, upsText, wayText, namesText, labelText, labelFor}
 
 -- the two words of the way, and how they begin
 abbrev pub Sparing : Telling ℕ
@@ -188,19 +188,22 @@ label-text l x (
     (glued (drop e x₄) f (decimal targets) (bytes "\"") fourth end))))) in
     (subst LabelFormed is formed, text ∙ ap labelText is)
 
-pub text-label : (l : Label) → LabelFormed l → LabelPart l (labelText l)
-text-label l f =
-    joined (Word (bytes "digraph shim {\nlabel=\"")) (λ _. FromUpstream) tt (bytes "digraph shim {\n") (bytes "label=\"") (names l) refl
-    (joined (Named 32) FromTarget (l .upstream) (l .upstream) (bytes " ") (rest l) (f .upstream, refl)
-    (joined (Named 32) (FromWay (l .upstream)) (l .target) (l .target) (bytes " ") (wayText (l .way) (l .ups) (l .targets)) (f .target, refl)
-    (joined WayPart (FromUps (l .upstream) (l .target)) (l .way) (wayWord (l .way)) (bytes " ") (upsText (l .ups) (l .targets)) (way-tells (l .way) (f .way))
-    (joined (Numbered 17 32) (FromTargets (l .upstream) (l .target) (l .way)) (l .ups) (decimal (l .ups)) (bytes " ") (targetsText (l .targets))
-    (omega (arith, f .ups), refl)
-    (joined (Numbered 17 34) (LabelEnd (l .upstream) (l .target) (l .way) (l .ups)) (l .targets) (decimal (l .targets)) (bytes "\"") (bytes ";\n")
-    (omega (arith, f .targets), refl) (tt, refl, refl))))))
-  where
-    rest : Label → List ℕ
-    rest l = l .target ++ (bytes " " ++ wayText (l .way) (l .ups) (l .targets))
+module _ (upstream target : List ℕ) (way ups targets : ℕ) where
+  tells : LabelFormed (labelled upstream target way ups targets)
+      → LabelPart (labelled upstream target way ups targets) (labelText (labelled upstream target way ups targets))
+  tells f =
+      joined (Word (bytes "digraph shim {\nlabel=\"")) (λ _. FromUpstream) tt (bytes "digraph shim {\n") (bytes "label=\"")
+      (namesText upstream target way ups targets) refl
+      (joined (Named 32) FromTarget upstream upstream (bytes " ") (target ++ (bytes " " ++ wayText way ups targets)) (f .upstream, refl)
+      (joined (Named 32) (FromWay upstream) target target (bytes " ") (wayText way ups targets) (f .target, refl)
+      (joined WayPart (FromUps upstream target) way (wayWord way) (bytes " ") (upsText ups targets) (way-tells way (f .way))
+      (joined (Numbered 17 32) (FromTargets upstream target way) ups (decimal ups) (bytes " ") (targetsText targets) (omega (arith, f .ups), refl)
+      (joined (Numbered 17 34) (LabelEnd upstream target way ups) targets (decimal targets) (bytes "\"") (bytes ";\n")
+      (omega (arith, f .targets), refl) (tt, refl, refl))))))
 
-    names : Label → List ℕ
-    names l = namesText (l .upstream) (l .target) (l .way) (l .ups) (l .targets)
+pub text-label : (l : Label) → LabelFormed l → LabelPart l (labelText l)
+text-label l = tells (l .upstream) (l .target) (l .way) (l .ups) (l .targets)
+
+-- a drawing's first two lines are those of its header's label
+pub label-line : (h : Header) → labelText (labelFor h) ≡ bytes "digraph shim {\n" ++ labelLine h
+label-line h = refl

@@ -1,4 +1,5 @@
 pub mod Following
 pub mod Words
 pub mod NodeLines
+pub mod Fields
 pub mod Labels

@@ -9,6 +9,7 @@ use Rattle.texts.specs.NamePart.{NameFormed, nameRun}
 use Rattle.texts.specs.Telling.{Then, Through, Either, Word, Named, Numbered, Taken, took, stopped}
 use Rattle.printing.specs.Decimal.{decimal}
 use Rattle.printing.specs.Name.{unfilled}
+use Rattle.image.specs.declared.machine.Header.{Header}
 use Rattle.drawing.specs.Drawing.{wayWord}
 use Rattle.drawing_reader.specs.declared.label.Places.{Places}
 use Rattle.drawing_reader.specs.declared.label.PlacesRead.{PlacesRead}
@@ -112,3 +113,7 @@ namesText upstream target way ups targets = upstream ++ (bytes " " ++ (target ++
 
 abbrev pub labelText : Label → List ℕ
 labelText l = bytes "digraph shim {\n" ++ (bytes "label=\"" ++ namesText (l .upstream) (l .target) (l .way) (l .ups) (l .targets))
+
+-- the label of a machine's header
+abbrev pub labelFor : Header → Label
+labelFor h = record { upstream = unfilled (h .upstream); target = unfilled (h .target); way = h .way; ups = h .ups; targets = h .targets }

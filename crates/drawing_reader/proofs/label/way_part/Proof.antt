@@ -1,6 +1,7 @@
 -- `way_part` meets its contract: the first byte tells which word it must be. Assumes nothing.
-use mathlib.Core.Path.{_≡_, sym, _∙_}
-use native.Mathlib.Omega.{arith}
+use Prim.Native.Nat.{ℕ}
+use mathlib.Core.Path.{sym, _∙_}
+use mathlib.Core.List.{List}
 use borrow.Author.Needs.{needs}
 use denote.Ref.{now}
 use Rattle.ground.specs.Bytes.{bytes}
@@ -31,16 +32,20 @@ returns c =
     let word = c .before .before .before in
     let byte = word .before .before in
     let a = byte .before .before .before .args in
-    sparing-here (now (a .text)) (a .at) (sym (byte .before .byte-at .ensures) ∙ byte .if1 .taken) (through-stopped (λ _. 0) (Word (bytes "sparing ")) (now (a .text)) (a .at)
-    (word-stuck (bytes "sparing ") (now (a .text)) (a .at) tt (word .follow .ensures) (c .before .place .given .1)))
+    let t : List ℕ = now (a .text) in
+    sparing-here t (a .at) (sym (byte .before .byte-at .ensures) ∙ byte .if1 .taken)
+    (through-stopped (λ _. 0) (Word (bytes "sparing ")) t (a .at)
+    (word-stuck (bytes "sparing ") t (a .at) tt (word .follow .ensures) (c .before .place .given .1)))
 
 returns-2 : tie.Need-returns-2
 returns-2 c =
     let word = c .before .before .before in
     let byte = word .before .before in
     let a = byte .before .before .before .args in
-    sparing-here (now (a .text)) (a .at) (sym (byte .before .byte-at .ensures) ∙ byte .if1 .taken) (through-took (λ _. 0) (Word (bytes "sparing ")) (now (a .text)) (a .at)
-    (word-found (bytes "sparing ") (now (a .text)) (a .at) tt (word .follow .ensures) (c .before .next .given .1)))
+    let t : List ℕ = now (a .text) in
+    sparing-here t (a .at) (sym (byte .before .byte-at .ensures) ∙ byte .if1 .taken)
+    (through-took (λ _. 0) (Word (bytes "sparing ")) t (a .at)
+    (word-found (bytes "sparing ") t (a .at) tt (word .follow .ensures) (c .before .next .given .1)))
 
 slice-aggregate-follow-2 : tie.Need-slice-aggregate-follow-2
 slice-aggregate-follow-2 c = search needs
@@ -59,16 +64,20 @@ returns-3 c =
     let word = c .before .before .before in
     let byte = word .before .before in
     let a = byte .before .before .before .args in
-    full-here (now (a .text)) (a .at) (λ is. byte .if1 .left (byte .before .byte-at .ensures ∙ is)) (through-stopped (λ _. 1) (Word (bytes "full ")) (now (a .text)) (a .at)
-    (word-stuck (bytes "full ") (now (a .text)) (a .at) tt (word .follow2 .ensures) (c .before .place2 .given .1)))
+    let t : List ℕ = now (a .text) in
+    full-here t (a .at) (λ is. byte .if1 .left (byte .before .byte-at .ensures ∙ is))
+    (through-stopped (λ _. 1) (Word (bytes "full ")) t (a .at)
+    (word-stuck (bytes "full ") t (a .at) tt (word .follow2 .ensures) (c .before .place2 .given .1)))
 
 returns-4 : tie.Need-returns-4
 returns-4 c =
     let word = c .before .before .before in
     let byte = word .before .before in
     let a = byte .before .before .before .args in
-    full-here (now (a .text)) (a .at) (λ is. byte .if1 .left (byte .before .byte-at .ensures ∙ is)) (through-took (λ _. 1) (Word (bytes "full ")) (now (a .text)) (a .at)
-    (word-found (bytes "full ") (now (a .text)) (a .at) tt (word .follow2 .ensures) (c .before .next2 .given .1)))
+    let t : List ℕ = now (a .text) in
+    full-here t (a .at) (λ is. byte .if1 .left (byte .before .byte-at .ensures ∙ is))
+    (through-took (λ _. 1) (Word (bytes "full ")) t (a .at)
+    (word-found (bytes "full ") t (a .at) tt (word .follow2 .ensures) (c .before .next2 .given .1)))
 
 pub way-part-spec : {M : Type 1} → statement M
 way-part-spec =
