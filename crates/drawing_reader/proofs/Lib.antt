@@ -3,3 +3,5 @@ pub mod Words
 pub mod NodeLines
 pub mod Fields
 pub mod Labels
+pub mod Marks
+pub mod EdgeParts

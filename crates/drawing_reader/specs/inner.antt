@@ -1,3 +1,4 @@
 -- What serves the crate's private functions and their proofs alone. A reader need not believe it.
 pub mod Label
 pub mod Nodes
+pub mod Edges

@@ -2,3 +2,4 @@
 mod decimal;
 mod label;
 mod nodes;
+mod edges;
