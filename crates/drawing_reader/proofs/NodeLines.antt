@@ -15,7 +15,7 @@ use Rattle.ground.specs.Bytes.{bytes}
 use Rattle.texts.specs.declared.Step.{Step}
 use Rattle.texts.specs.Language.{Telling, Any, Some, Unique}
 use Rattle.texts.specs.Pattern.{isWord, followAt}
-use Rattle.texts.specs.Telling.{Then, Either, Word, Taken, took, stopped, Finds}
+use Rattle.texts.specs.Telling.{Then, Word, Taken, took, stopped, Finds}
 use Rattle.texts.proofs.Language.{seq-join}
 use Rattle.texts.proofs.Pattern.{followed}
 use Rattle.texts.proofs.Steps.{follow-over, follow-not}

@@ -1,13 +1,15 @@
 -- The first two lines of a drawing, up to its label, as a part of its text.
-use Prim.Native.Nat.{ℕ, _-_}
+use Prim.Native.Nat.{ℕ, _-_, _≤_}
 use mathlib.Core.List.{List, _++_}
 use lib.ListN.{length, take, drop, replicate}
 use Rattle.ground.specs.Bytes.{bytes}
 use Rattle.texts.specs.declared.Step.{Step}
 use Rattle.texts.specs.Language.{Telling}
-use Rattle.texts.specs.NamePart.{nameRun}
+use Rattle.texts.specs.NamePart.{NameFormed, nameRun}
 use Rattle.texts.specs.Telling.{Then, Through, Either, Word, Named, Numbered, Taken, took, stopped}
+use Rattle.printing.specs.Decimal.{decimal}
 use Rattle.printing.specs.Name.{unfilled}
+use Rattle.image.specs.declared.machine.Header.{Header}
 use Rattle.drawing.specs.Drawing.{wayWord}
 use Rattle.drawing_reader.specs.declared.label.Places.{Places}
 use Rattle.drawing_reader.specs.declared.label.PlacesRead.{PlacesRead}
@@ -88,3 +90,30 @@ takenBy l (Step.Stuck p) = stopped p
 
 abbrev pub labelTaken : LabelRead → Taken Label
 labelTaken r = takenBy (labelOf r) (r .step)
+
+-- the labels that a drawing has, and the two lines that tell one
+pub record LabelFormed (l : Label) : Type 0 where
+  pub upstream : NameFormed (l .upstream)
+  pub target : NameFormed (l .target)
+  pub way : l .way ≤ 1
+  pub ups : l .ups ≤ 16
+  pub targets : l .targets ≤ 16
+
+abbrev pub targetsText : ℕ → List ℕ
+targetsText targets = decimal targets ++ bytes "\";\n"
+
+abbrev pub upsText : ℕ → ℕ → List ℕ
+upsText ups targets = decimal ups ++ (bytes " " ++ targetsText targets)
+
+abbrev pub wayText : ℕ → ℕ → ℕ → List ℕ
+wayText way ups targets = wayWord way ++ (bytes " " ++ upsText ups targets)
+
+abbrev pub namesText : List ℕ → List ℕ → ℕ → ℕ → ℕ → List ℕ
+namesText upstream target way ups targets = upstream ++ (bytes " " ++ (target ++ (bytes " " ++ wayText way ups targets)))
+
+abbrev pub labelText : Label → List ℕ
+labelText l = bytes "digraph shim {\n" ++ (bytes "label=\"" ++ namesText (l .upstream) (l .target) (l .way) (l .ups) (l .targets))
+
+-- the label of a machine's header
+abbrev pub labelFor : Header → Label
+labelFor h = record { upstream = unfilled (h .upstream); target = unfilled (h .target); way = h .way; ups = h .ups; targets = h .targets }

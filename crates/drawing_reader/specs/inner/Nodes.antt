@@ -1,6 +1,5 @@
 -- The lines of a drawing's nodes as a part of its text.
 use Prim.Native.Nat.{ℕ, zero, suc, _+_}
-use mathlib.Core.List.{List, _++_}
 use Rattle.ground.specs.Bytes.{bytes}
 use Rattle.texts.specs.declared.Part.{Part}
 use Rattle.texts.specs.Language.{Telling}

@@ -9,7 +9,7 @@ use denote.Ref.{now}
 use lib.ListN.{getD}
 use Rattle.texts.specs.Telling.{Word, Taken, took, stopped, Finds}
 use Rattle.drawing.specs.Drawing.{nodeLine}
-use Rattle.drawing_reader.specs.inner.Nodes.{NodesEnd, NodesFrom}
+use Rattle.drawing_reader.specs.inner.Nodes.{NodesFrom}
 use Rattle.drawing_reader.proofs.Words.{word-found, word-stuck}
 use Rattle.drawing_reader.proofs.NodeLines.{node-word, nodes-over, nodes-more, nodes-stop, no-more}
 use Rattle.drawing_reader.proofs.nodes.more_nodes.Statement.{statement}
@@ -103,7 +103,8 @@ nodes-end-requires-2 c κs = search needs
 returns-3 : tie.Need-returns-3 Inv-loop μ-loop
 returns-3 c =
     let l = c .before .before .loop in
-    l .inv .2 _ (no-more (now (c .before .before .before .before .args .text)) (l .here) (l .number) (255 - l .number) (omega arith) (c .nodes-end2 .ensures))
+    let t = now (c .before .before .before .before .args .text) in
+    l .inv .2 _ (no-more t (l .here) (l .number) (255 - l .number) (omega arith) (c .nodes-end2 .ensures))
 
 pub more-nodes-spec : {M : Type 1} → statement M
 more-nodes-spec =
