@@ -1,3 +1,4 @@
 pub mod Following
 pub mod Marks
 pub mod EdgeParts
+pub mod EdgeTexts
