@@ -2,3 +2,4 @@ pub mod Following
 pub mod Marks
 pub mod EdgeParts
 pub mod EdgeTexts
+pub mod EdgeRows
