@@ -29,7 +29,13 @@ same-length : tie.Need-same-length Inv-loop μ-loop
 same-length c = search needs
 
 returns : tie.Need-returns Inv-loop μ-loop
-returns c = search (rows-stop, needs)
+returns c =
+    let row = c .before .before .before .before .before in
+    let inside = row .before .before in
+    let loop = inside .before in
+    let inv = loop .loop .inv in
+    rows-stop _ (loop .before .before .before .before .pre .0) _ _ _ _ _ _ (inv .1) (omega (arith, inv .0, inside .loop-test .taken)) _ _ (row .edge-row .ensures)
+    (c .before .place .given .1)
 
 enum-known-past : tie.Need-enum-known-past Inv-loop μ-loop
 enum-known-past c = search needs
@@ -41,13 +47,22 @@ loop-less : tie.Need-loop-less Inv-loop μ-loop
 loop-less c = search needs
 
 loop-again : tie.Need-loop-again Inv-loop μ-loop
-loop-again c = search (rows-more, needs)
+loop-again c =
+    let row = c .before .before .before .before .before in
+    let inside = row .before .before in
+    let loop = inside .before in
+    let inv = loop .loop .inv in
+    (inv .0, rows-more _ (loop .before .before .before .before .pre .0) _ _ _ _ _ _ (inv .1) (omega (arith, inv .0, inside .loop-test .taken)) _ _ (row .edge-row .ensures)
+    (c .before .past .given .1))
 
 same-length-2 : tie.Need-same-length-2 Inv-loop μ-loop
 same-length-2 c = search needs
 
 returns-2 : tie.Need-returns-2 Inv-loop μ-loop
-returns-2 c = search (rows-done, needs)
+returns-2 c =
+    let loop = c .before in
+    let inv = loop .loop .inv in
+    rows-done _ (loop .before .before .before .before .pre .0) _ _ _ _ _ _ (inv .1) (omega (arith, inv .0, c .loop-test .left))
 
 pub edge-rows-spec : {M : Type 1} → statement M
 edge-rows-spec =
