@@ -5,3 +5,5 @@ pub mod Fields
 pub mod Labels
 pub mod Marks
 pub mod EdgeParts
+pub mod EdgeTexts
+pub mod EdgeRows

@@ -16,7 +16,7 @@ use Rattle.printing.specs.Decimal.{decimal}
 use Rattle.texts.specs.declared.Step.{Step}
 use Rattle.texts.specs.Language.{Telling}
 use Rattle.texts.specs.Telling.{Then, Through, Items, Either, Word, Numbered, Taken, took, stopped, Finds}
-use Rattle.image.specs.Image.{listed, word}
+use Rattle.image.specs.Image.{word}
 use Rattle.drawing_reader.specs.declared.edges.Shape.{Shape}
 
 -- the fence that a byte names; 16, which no fence has, where it names none
@@ -73,13 +73,25 @@ RowPart sh state = Items (EdgePart sh state) (sh .letters)
 abbrev pub RowsPart : Shape → Telling (List (List ℕ))
 RowsPart sh = Items (RowPart sh) (sh .states)
 
+-- the words that an edge may tell, as an image has them
+abbrev pub WordOf : Bool → Shape → ℕ → Type 0
+WordOf true sh w = ((w / 256 ≡ 254) × (w % 256 ≡ 0)) ⊎ (((w / 256 < sh .targets) ⊎ (w / 256 ≡ 255)) × (w % 256 < sh .states))
+WordOf false sh w = (w / 256 ≡ 255) × (w % 256 < sh .states)
+
+abbrev pub EdgeWord : Shape → ℕ → ℕ → Type 0
+EdgeWord sh letter w = WordOf (ltb letter accessLetters) sh w
+
+-- the first n values of f
+unfoldable pub inOrder : {A : Type 0} → (ℕ → A) → ℕ → List A
+inOrder f zero = []
+inOrder f (suc n) = inOrder f n ++ (f n ∷ [])
+
 -- the words of a state in rows, and those of the first so many states
 abbrev pub rowTold : ℕ → List ℕ → ℕ → List ℕ
-rowTold letters rows state = listed letters (word rows state)
+rowTold letters rows state = inOrder (word rows state) letters
 
-unfoldable pub rowsTold : ℕ → List ℕ → ℕ → List (List ℕ)
-rowsTold letters rows zero = []
-rowsTold letters rows (suc n) = rowsTold letters rows n ++ (rowTold letters rows n ∷ [])
+abbrev pub rowsTold : ℕ → List ℕ → ℕ → List (List ℕ)
+rowsTold letters rows states = inOrder (rowTold letters rows) states
 
 -- what a step over the edges of a state has taken, and what one over the edges of so many states has, by the rows after it
 abbrev pub rowTaken : ℕ → List ℕ → ℕ → Step → Taken (List ℕ)
