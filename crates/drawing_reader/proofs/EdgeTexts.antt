@@ -128,9 +128,11 @@ module _ (marks letter : ℕ) where
 
         labelled : LedLabel marks letter next w label
         labelled =
-            word-join (middle letter) (Marked marks next) w ((fenceMark fence ∷ []) ++ bytes "\"];\n")
-            (fence, seq-join (MarkPart marks fence) (λ t. Unit × (256 * fence + next ≡ w) × (t ≡ bytes "\"];\n")) (fenceMark fence ∷ []) (bytes "\"];\n") (v, refl)
-            (tt, is, refl))
+            word-join (middle letter) (Marked marks next) w ((fenceMark fence ∷ []) ++ bytes "\"];\n") (
+              fence,
+              seq-join (MarkPart marks fence) (λ t. Unit × (256 * fence + next ≡ w) × (t ≡ bytes "\"];\n")) (fenceMark fence ∷ []) (bytes "\"];\n") (v, refl)
+                  (tt, is, refl),
+            )
 
 -- an edge
 module _ (sh : Shape) (shaped : Shaped sh) where

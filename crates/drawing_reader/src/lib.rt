@@ -1,3 +1,3 @@
 // A drawing read back: from its text to the image of the machine that it draws.
 mod decimal;
-pub mod edges;
+mod edges;
