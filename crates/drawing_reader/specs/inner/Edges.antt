@@ -42,15 +42,21 @@ MarkPart marks fence t = ((fence < marks) ⊎ (fence ≡ 255)) × (t ≡ fenceMa
 abbrev pub refusedWord : ℕ
 refusedWord = 65024
 
+abbrev pub RefusedMark : Telling ℕ
+RefusedMark = Through (λ _. refusedWord) (Word (bytes "!\"];\n"))
+
 abbrev pub RefusedLabel : ℕ → Telling ℕ
-RefusedLabel letter = Then (Word (middle letter)) (λ _. Through (λ _. refusedWord) (Word (bytes "!\"];\n")))
+RefusedLabel letter = Then (Word (middle letter)) (λ _. RefusedMark)
 
 abbrev pub Refused : ℕ → Telling ℕ
 Refused letter = Then (Word (bytes "refused ")) (λ _. RefusedLabel letter)
 
 -- one that leads to a state has the mark of one of so many fences, or of none
+abbrev pub MarkEnd : ℕ → ℕ → Telling ℕ
+MarkEnd next fence = Through (λ _. 256 * fence + next) (Word (bytes "\"];\n"))
+
 abbrev pub Marked : ℕ → ℕ → Telling ℕ
-Marked marks next = Then (MarkPart marks) (λ fence. Through (λ _. 256 * fence + next) (Word (bytes "\"];\n")))
+Marked marks next = Then (MarkPart marks) (MarkEnd next)
 
 abbrev pub LedLabel : ℕ → ℕ → ℕ → Telling ℕ
 LedLabel marks letter next = Then (Word (middle letter)) (λ _. Marked marks next)
