@@ -1,2 +1,5 @@
 -- What serves the crate's private functions and their proofs alone. A reader need not believe it.
+pub mod Label
+pub mod Nodes
 pub mod Edges
+pub mod Whole

@@ -6,6 +6,7 @@ pub mod Readings
 pub mod Accepted
 pub mod NameFields
 pub mod Canonicals
+pub mod SameWords
 pub mod Theorems
 pub mod WrittenBack
 pub mod Unique

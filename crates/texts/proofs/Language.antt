@@ -92,10 +92,10 @@ module _ {A : Type 0} (L : Telling A) (M : A → Language) where
 
   -- where the first part is not found, it decides
   module _ (s : List ℕ) (none : (n : ℕ) (a : A) → n ≤ length s → L a (take n s) → ⊥) where
-    pub first-decides : ((a : A) → Some (M a)) → (k : ℕ) → Longest (Any L) s k → Longest (SeqOn L M) s k
+    pub first-decides : ((a : A) (x : List ℕ) → L a x → Some (M a)) → (k : ℕ) → Longest (Any L) s k → Longest (SeqOn L M) s k
     first-decides some k h = record {
       within = h .within;
-      begins = (rest ++ w, (a, (length begun, reach, subst (L a) (sym front) (h .begins .1 .1), subst (M a) (sym back) (some a .1))));
+      begins = (rest ++ w, (a, (length begun, reach, subst (L a) (sym front) (h .begins .1 .1), subst (M a) (sym back) (completed .1))));
       longest = most;
     }
       where
@@ -105,8 +105,11 @@ module _ {A : Type 0} (L : Telling A) (M : A → Language) where
         a : A
         a = h .begins .1 .0
 
+        completed : Some (M a)
+        completed = some a (take k s ++ rest) (h .begins .1 .1)
+
         w : List ℕ
-        w = some a .0
+        w = completed .0
 
         begun : List ℕ
         begun = take k s ++ rest
@@ -145,7 +148,7 @@ module _ (L M : Language) where
   pub longest-stuck : (s : List ℕ) → ((n : ℕ) → n ≤ length s → L (take n s) → ⊥) → Some M → (k : ℕ) → Longest L s k → Longest (Seq L M) s k
   longest-stuck s none some k h =
       seq-on k s
-      (first-decides (λ _. L) (λ _. M) s (λ n _. none n) (λ _. some) k (longest-iff L (Any {A = Unit} (λ _. L)) (λ t x. (tt, x)) (λ t x. x .1) s k h))
+      (first-decides (λ _. L) (λ _. M) s (λ n _. none n) (λ _ _ _. some) k (longest-iff L (Any {A = Unit} (λ _. L)) (λ t x. (tt, x)) (λ t x. x .1) s k h))
 
 -- a choice that the first byte has settled: texts of the other form begin with other bytes
 module _ (L M : Language) (s : List ℕ) (P : ℕ → Type 0) (begin : (a : List ℕ) → M a → P (getD a 0 0)) (apart : P (getD s 0 0) → ⊥) where

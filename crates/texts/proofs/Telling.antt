@@ -44,8 +44,9 @@ module _ {A B : Type 0} (L : Telling A) (M : A → Telling B) where
       let le : i ≤ n = omega (arith, length-take-le n s ln) in
       (a, i, le, subst (L a) (take-take i n s le) l, subst (M a b) (drop-take i n s le ln) m)
 
-  pub unique-then : Unique L → ((a : A) → Unique (M a)) → Unique (Then L M)
-  unique-then ul um s m n b c lm ln x y = by (front s m b lm x) (front s n c ln y)
+  -- the second part need only be so where the first has told what it hangs on
+  pub unique-told : Unique L → ((a : A) (x : List ℕ) → L a x → Unique (M a)) → Unique (Then L M)
+  unique-told ul um s m n b c lm ln x y = by (front s m b lm x) (front s n c ln y)
     where
       by : (a : A) × (i : ℕ) × (i ≤ m) × L a (take i s) × M a b (take (m - i) (drop i s))
           → (a : A) × (i : ℕ) × (i ≤ n) × L a (take i s) × M a c (take (n - i) (drop i s)) → (m ≡ n) × (b ≡ c)
@@ -54,20 +55,29 @@ module _ {A B : Type 0} (L : Telling A) (M : A → Telling B) where
           let q′ : M a c (take (n - i) (drop i s)) =
           subst (λ (j : ℕ). M a c (take (n - j) (drop j s))) (sym (first .0)) (subst (λ (z : A). M z c (take (n - i′) (drop i′ s))) (sym (first .1)) q) in
           let same : i ≡ i′ = first .0 in
-          let second = um a (drop i s) (m - i) (n - i) b c (omega (arith, length-drop i s)) (omega (arith, length-drop i s, same)) p q′ in
+          let second = um a (take i s) l (drop i s) (m - i) (n - i) b c (omega (arith, length-drop i s)) (omega (arith, length-drop i s, same)) p q′ in
           (omega (arith, second .0, same), second .1)
 
-  pub some-then : Some (Any L) → ((a : A) → Some (Any (M a))) → Some (Any (Then L M))
-  some-then (w, (a, l)) some =
-      let v = some a in
+  pub unique-then : Unique L → ((a : A) → Unique (M a)) → Unique (Then L M)
+  unique-then ul um = unique-told ul (λ a x l. um a)
+
+  pub some-told : Some (Any L) → ((a : A) (x : List ℕ) → L a x → Some (Any (M a))) → Some (Any (Then L M))
+  some-told (w, (a, l)) some =
+      let v = some a w l in
       (w ++ v .0, (v .1 .0, (a, seq-join (L a) (M a (v .1 .0)) w (v .0) l (v .1 .1))))
+
+  pub some-then : Some (Any L) → ((a : A) → Some (Any (M a))) → Some (Any (Then L M))
+  some-then sl some = some-told sl (λ a x l. some a)
 
   module _ (t : List ℕ) (at : ℕ) where
     -- where the first part does not stand, it decides
-    pub then-stops : ((a : A) → Some (Any (M a))) → {p : ℕ} → Finds L t at (stopped p) → Finds (Then L M) t at (stopped p)
-    then-stops some (departs {k = k} e h none) =
+    pub stops-told : ((a : A) (x : List ℕ) → L a x → Some (Any (M a))) → {p : ℕ} → Finds L t at (stopped p) → Finds (Then L M) t at (stopped p)
+    stops-told some (departs {k = k} e h none) =
         departs e (longest-on (drop at t) k (first-decides L (λ a. Any (M a)) (drop at t) none some k h))
         (λ n b ln x. let f = front (drop at t) n b ln x in none (f .1) (f .0) (omega (arith, f .2)) (f .3))
+
+    pub then-stops : ((a : A) → Some (Any (M a))) → {p : ℕ} → Finds L t at (stopped p) → Finds (Then L M) t at (stopped p)
+    then-stops some h = stops-told (λ a x l. some a) h
 
     -- where it stands, the second does
     pub then-goes : Unique L → {p : ℕ} {a : A} {r : Taken B} → Finds L t at (took p a) → Finds (M a) t p r → Finds (Then L M) t at r
