@@ -1,7 +1,7 @@
 -- Edges read into rows, one behind another: what is found so far is what stands in the rows so far, since a word that is put touches no other.
 -- Assumes nothing.
-use Prim.Native.Nat.{ℕ, zero, suc, _+_, _-_, _*_, _/_, _%_, _≤_, _<_}
-use mathlib.Core.Path.{_≡_, refl, sym, ap, ap₂, subst, _∙_}
+use Prim.Native.Nat.{ℕ, zero, suc, _+_, _-_, _*_, _≤_, _<_}
+use mathlib.Core.Path.{_≡_, refl, sym, ap₂, subst, _∙_}
 use mathlib.Core.List.{List, [], _∷_, _++_}
 use native.Mathlib.Omega.{arith}
 use native.Mathlib.Numerals.{add-one}
@@ -12,11 +12,12 @@ use Rattle.operations.specs.Alphabet.{stride}
 use Rattle.texts.specs.declared.Step.{Step}
 use Rattle.texts.specs.declared.Part.{Part}
 use Rattle.texts.specs.Language.{Any, Some, Unique}
-use Rattle.texts.specs.Telling.{Items, partTaken, took, stopped, Finds}
+use Rattle.texts.specs.Telling.{Items, partTaken, took, Finds}
 use Rattle.texts.proofs.Telling.{unique-items, some-items, items-none, items-more, items-stop}
 use Rattle.image.specs.Image.{word}
 use Rattle.drawing_reader.specs.declared.edges.Shape.{Shape}
-use Rattle.drawing_reader.specs.inner.Edges.{EdgePart, RowPart, RowsPart, inOrder, rowTold, rowsTold, rowTaken, rowsTaken, Shaped, Within, ReadsRow, ReadsRows}
+use Rattle.drawing_reader.specs.inner.Edges.{EdgePart, RowPart, RowsPart, inOrder, rowTold}
+use Rattle.drawing_reader.specs.inner.Edges.{rowsTold, rowTaken, Shaped, Within, ReadsRow, ReadsRows}
 use Rattle.drawing_reader.proofs.EdgeParts.{unique-edge, some-edge}
 use Rattle.drawing_reader.proofs.EdgeTexts.{edge-small}
 

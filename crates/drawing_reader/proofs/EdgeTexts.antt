@@ -1,30 +1,25 @@
 -- The texts of edges are the lines of a drawing: an edge tells a word of an image, and its text is that word's line; rows of them are lines in
 -- turn. Assumes nothing.
-use Prim.Native.Nat.{ℕ, zero, suc, _+_, _*_, _/_, _%_, _≤_, _<_}
+use Prim.Native.Nat.{ℕ, _+_, _*_, _/_, _%_, _≤_, _<_}
 use mathlib.Core.Path.{_≡_, refl, sym, ap, ap₂, subst, _∙_}
 use mathlib.Core.Bool.{Bool, true, false, cond}
 use mathlib.Core.Logic.{_⊎_, inl, inr}
 use mathlib.Core.List.{List, [], _∷_, _++_, append-assoc}
 use native.Mathlib.Omega.{arith}
-use native.Mathlib.Decide.{ℕ-discrete}
 use borrow.Author.Tests.{ne-eqb}
 use lib.Dec.{eqb, ltb}
-use lib.ListN.{length, take, drop, getD, length-append, take-append-drop, List·getD-append}
-use lib.Seq.{getD-at}
+use lib.ListN.{drop, take-append-drop}
 use Rattle.ground.specs.Bytes.{bytes}
 use Rattle.operations.specs.Operation.{byteOf}
 use Rattle.operations.specs.Alphabet.{accessLetters, operationOf, fenceMark}
 use Rattle.printing.specs.Decimal.{decimal}
-use Rattle.printing.specs.Turns.{inTurn}
-use Rattle.printing.proofs.Decimals.{one-digit}
-use Rattle.printing.proofs.Turns.{inTurn-same}
 use Rattle.texts.specs.Language.{Telling}
-use Rattle.texts.specs.Telling.{Then, Word, Numbered, Items, took, Finds, finds}
-use Rattle.texts.proofs.Language.{seq-join, seq-apart}
-use Rattle.image.specs.Image.{word}
-use Rattle.drawing.specs.Drawing.{edgeLine, stateEdges}
+use Rattle.texts.specs.Telling.{Then, Word, Numbered, took, Finds, finds}
+use Rattle.texts.proofs.Language.{seq-join}
+use Rattle.drawing.specs.Drawing.{edgeLine}
 use Rattle.drawing_reader.specs.declared.edges.Shape.{Shape}
-use Rattle.drawing_reader.specs.inner.Edges.{middle, MarkPart, refusedWord, RefusedLabel, Refused, Marked, LedLabel, Led, EndOf, EdgeEnd, EdgePart, RowPart, RowsPart, WordOf, EdgeWord, inOrder, rowTold, rowsTold, Shaped}
+use Rattle.drawing_reader.specs.inner.Edges.{middle, MarkPart, refusedWord, RefusedLabel, Refused, Marked, LedLabel}
+use Rattle.drawing_reader.specs.inner.Edges.{Led, EndOf, EdgeEnd, EdgePart, WordOf, EdgeWord, Shaped}
 
 -- a word and what stands behind it
 word-apart : {B : Type 0} (w : List ℕ) (M : Telling B) (b : B) (t : List ℕ) → Then (Word w) (λ _. M) b t
@@ -128,9 +123,11 @@ module _ (marks letter : ℕ) where
 
         labelled : LedLabel marks letter next w label
         labelled =
-            word-join (middle letter) (Marked marks next) w ((fenceMark fence ∷ []) ++ bytes "\"];\n")
-            (fence, seq-join (MarkPart marks fence) (λ t. Unit × (256 * fence + next ≡ w) × (t ≡ bytes "\"];\n")) (fenceMark fence ∷ []) (bytes "\"];\n") (v, refl)
-            (tt, is, refl))
+            word-join (middle letter) (Marked marks next) w ((fenceMark fence ∷ []) ++ bytes "\"];\n") (
+              fence,
+              seq-join (MarkPart marks fence) (λ t. Unit × (256 * fence + next ≡ w) × (t ≡ bytes "\"];\n")) (fenceMark fence ∷ []) (bytes "\"];\n") (v, refl)
+                  (tt, is, refl),
+            )
 
 -- an edge
 module _ (sh : Shape) (shaped : Shaped sh) where

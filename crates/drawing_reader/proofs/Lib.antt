@@ -7,3 +7,4 @@ pub mod Marks
 pub mod EdgeParts
 pub mod EdgeTexts
 pub mod EdgeRows
+pub mod EdgeLines
