@@ -39,7 +39,7 @@ module _ {A : Type 0} (f : ℕ → A) (d : A) where
       by (yes e) rest = getD-at (inOrder f n) (f n) [] d i (length-in-order n ∙ sym e) ∙ ap f (sym e)
       by (no ne) rest = List·getD-append (inOrder f n) (f n ∷ []) d i (omega (arith, length-in-order n)) ∙ rest (omega arith)
 
-in-order-all : {A : Type 0} (d : A) (values : List A) (f : ℕ → A) (n : ℕ) → length values ≡ n → ((i : ℕ) → i < n → getD values i d ≡ f i)
+pub in-order-all : {A : Type 0} (d : A) (values : List A) (f : ℕ → A) (n : ℕ) → length values ≡ n → ((i : ℕ) → i < n → getD values i d ≡ f i)
     → inOrder f n ≡ values
 in-order-all d values f n e h =
     ext-getD d (inOrder f n) values (length-in-order f d n ∙ sym e)

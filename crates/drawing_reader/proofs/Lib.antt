@@ -8,3 +8,5 @@ pub mod EdgeParts
 pub mod EdgeTexts
 pub mod EdgeRows
 pub mod EdgeLines
+pub mod Whole
+pub mod Theorems

@@ -54,13 +54,15 @@ fn header_for(label: LabelRead, states: usize) -> Header
     requires { ⌜ Told label × (states ≤ 255) ⌝ }
     ensures { λ r. ⌜ (labelFor r ≡ labelOf label) × (r .states ≡ states) × Fielded (r .upstream) × Fielded (r .target) ⌝ }
 {
+    let upstream = label.upstream;
+    let target = label.target;
     Header {
         way: label.way as u8,
         states: states as u8,
         ups: label.ups as u8,
         targets: label.targets as u8,
-        upstream: label.upstream,
-        target: label.target,
+        upstream,
+        target,
     }
 }
 
