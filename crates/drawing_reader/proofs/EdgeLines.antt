@@ -201,14 +201,16 @@ module _ (sh : Shape) (shaped : Shaped sh) where
 
       value : (s a : ℕ) → s < sh .states → a < sh .letters → at (getD values s []) a ≡ word rows s a
       value s a l k =
-          ap (λ (row : List ℕ). at row a) (at-in-order (rowTold (sh .letters) rows) [] (sh .states) s l) ∙ at-in-order (word rows s) 0 (sh .letters) a k
+          ap (λ (row : List ℕ). at row a) (at-in-order (rowTold (sh .letters) rows) [] (sh .states) s l)
+          ∙ at-in-order (word rows s) 0 (sh .letters) a k
 
       by : RowsAre sh values t
           → ((s a : ℕ) → s < sh .states → a < sh .letters → EdgeWord sh a (word rows s a)) × (t ≡ inTurn (stateEdges (sh .letters) rows) (sh .states))
       by are = (
         (λ s a l k. subst (EdgeWord sh a) (value s a l k) (are .words s a l k)),
         are .text
-            ∙ inTurn-same (λ (s : ℕ). inTurn (λ (a : ℕ). edgeLine s a (at (getD values s []) a)) (sh .letters)) (stateEdges (sh .letters) rows) (sh .states)
+            ∙ inTurn-same (λ (s : ℕ). inTurn (λ (a : ℕ). edgeLine s a (at (getD values s []) a)) (sh .letters)) (stateEdges (sh .letters) rows)
+            (sh .states)
             (λ s l.
             inTurn-same (λ (a : ℕ). edgeLine s a (at (getD values s []) a)) (λ (a : ℕ). edgeLine s a (word rows s a)) (sh .letters)
             (λ a k. ap (edgeLine s a) (value s a l k))),

@@ -23,13 +23,14 @@ use Rattle.texts.specs.declared.Part.{Part}
 use Rattle.texts.specs.Pattern.{isWord, followAt}
 use Rattle.texts.specs.NumberPart.{isDigit, numberAt}
 use Rattle.texts.specs.Language.{Telling, Any, Some, Unique}
-use Rattle.texts.specs.Telling.{Then, Through, Word, Numbered, wordTaken, partTaken, Taken, took, stopped, Finds, finds}
+use Rattle.texts.specs.Telling.{Then, Through, Word, Numbered, partTaken, Taken, took, stopped, Finds, finds}
 use Rattle.texts.proofs.Telling.{unique-then, some-then, then-stops, then-goes, unique-through, some-through, through-took}
-use Rattle.texts.proofs.Telling.{through-stopped, unique-word, some-word, finds-word, unique-either, some-either, either-first, either-second}
-use Rattle.texts.proofs.NumberPart.{unique-numbered, some-numbered, finds-number, word-append, decimal-word, first-digit}
+use Rattle.texts.proofs.Telling.{through-stopped, unique-word, some-word, unique-either, some-either, either-first, either-second}
+use Rattle.texts.proofs.NumberPart.{unique-numbered, some-numbered, word-append, decimal-word, first-digit}
 use Rattle.drawing_reader.specs.declared.edges.Shape.{Shape}
 use Rattle.drawing_reader.specs.inner.Edges.{middle, MarkPart, refusedWord, RefusedMark, RefusedLabel, Refused, MarkEnd, Marked}
 use Rattle.drawing_reader.specs.inner.Edges.{LedLabel, Led, EndOf, EdgeEnd, EdgePart, Shaped}
+use Rattle.drawing_reader.proofs.Words.{word-found, word-stuck, number-found, number-stuck}
 use Rattle.drawing_reader.proofs.Marks.{mark-small, unique-mark, some-mark}
 
 -- no operation's byte is `?`, so the label's middle is a word
@@ -51,20 +52,17 @@ middle-word letter =
 
 -- a word that was followed
 module _ (w : List ℕ) (word : T (isWord w)) {t : List ℕ} {at : ℕ} {r : Step} (is : r ≡ followAt w t at) where
-  word-is : {s : Step} → r ≡ s → Finds (Word w) t at (wordTaken s)
-  word-is e = subst (λ (s : Step). Finds (Word w) t at (wordTaken s)) (sym is ∙ e) (finds-word w t at word)
-
   pub word-stops : {B : Type 0} {p : ℕ} (M : Telling B) → Some (Any M) → r ≡ Step.Stuck p → Finds (Then (Word w) (λ _. M)) t at (stopped p)
-  word-stops M some e = then-stops (Word w) (λ _. M) t at (λ _. some) (word-is e)
+  word-stops M some e = then-stops (Word w) (λ _. M) t at (λ _. some) (word-stuck w t at word is e)
 
   pub word-goes : {B : Type 0} {p : ℕ} (M : Telling B) → r ≡ Step.Next p → {x : Taken B} → Finds M t p x → Finds (Then (Word w) (λ _. M)) t at x
-  word-goes M e h = then-goes (Word w) (λ _. M) t at (unique-word w) (word-is e) h
+  word-goes M e h = then-goes (Word w) (λ _. M) t at (unique-word w) (word-found w t at word is e) h
 
   pub last-stops : {p : ℕ} (v : ℕ) → r ≡ Step.Stuck p → Finds (Through (λ _. v) (Word w)) t at (stopped p)
-  last-stops v e = through-stopped (λ _. v) (Word w) t at (word-is e)
+  last-stops v e = through-stopped (λ _. v) (Word w) t at (word-stuck w t at word is e)
 
   pub last-goes : {p : ℕ} (v : ℕ) → r ≡ Step.Next p → Finds (Through (λ _. v) (Word w)) t at (took p v)
-  last-goes v e = through-took (λ _. v) (Word w) t at (word-is e)
+  last-goes v e = through-took (λ _. v) (Word w) t at (word-found w t at word is e)
 
 unique-last : (w : List ℕ) (v : ℕ) → Unique (Through (λ _. v) (Word w))
 unique-last w v = unique-through (λ _. v) (Word w) (unique-word w)
@@ -158,26 +156,26 @@ blank d = d
 
 module _ (states marks letter : ℕ) (some : 1 ≤ states) where
   unique-led : marks ≤ 16 → Unique (Led states marks letter)
-  unique-led few = unique-then (Numbered states 32) (LedLabel marks letter) (unique-numbered states 32 blank) (λ next. unique-led-label marks letter next few)
+  unique-led few =
+      unique-then (Numbered states 32) (LedLabel marks letter) (unique-numbered states 32 blank) (λ next. unique-led-label marks letter next few)
 
   some-led : Some (Any (Led states marks letter))
   some-led = some-then (Numbered states 32) (LedLabel marks letter) (some-numbered states 32 some) (some-led-label marks letter)
 
   module _ (t : List ℕ) (at : ℕ) {r : Part} (is : r ≡ numberAt states 32 t at) where
-    number-is : {s : Part} → r ≡ s → Finds (Numbered states 32) t at (partTaken s)
-    number-is e = subst (λ (s : Part). Finds (Numbered states 32) t at (partTaken s)) (sym is ∙ e) (finds-number states 32 some t at)
-
     pub next-small : {p next : ℕ} → r ≡ Part.Next p next → next < states
-    next-small e = small (number-is e)
+    next-small e = small (number-found states 32 some t at is e)
       where
         small : {p next : ℕ} → Finds (Numbered states 32) t at (took p next) → next < states
         small (finds f ln m) = m .0
 
     pub led-stops : {p : ℕ} → r ≡ Part.Stuck p → Finds (Led states marks letter) t at (stopped p)
-    led-stops e = then-stops (Numbered states 32) (LedLabel marks letter) t at (some-led-label marks letter) (number-is e)
+    led-stops e = then-stops (Numbered states 32) (LedLabel marks letter) t at (some-led-label marks letter) (number-stuck states 32 some t at is e)
 
-    pub led-goes : {p : ℕ} (next : ℕ) → r ≡ Part.Next p next → {x : Taken ℕ} → Finds (LedLabel marks letter next) t p x → Finds (Led states marks letter) t at x
-    led-goes next e h = then-goes (Numbered states 32) (LedLabel marks letter) t at (unique-numbered states 32 blank) (number-is e) h
+    pub led-goes : {p : ℕ} (next : ℕ) → r ≡ Part.Next p next → {x : Taken ℕ} → Finds (LedLabel marks letter next) t p x
+        → Finds (Led states marks letter) t at x
+    led-goes next e h = then-goes (Numbered states 32) (LedLabel marks letter) t at (unique-numbered states 32 blank)
+        (number-found states 32 some t at is e) h
 
 -- the first byte tells where the edge of an access leads
 front-byte : (n : ℕ) (x w : List ℕ) (b : ℕ) → take n x ≡ b ∷ w → getD x 0 0 ≡ b
@@ -223,7 +221,8 @@ module _ (sh : Shape) (shaped : Shaped sh) where
   unique-end : (q : Bool) (letter : ℕ) → Unique (EndOf q sh letter)
   unique-end true letter =
       unique-either (Refused letter) (Led (sh .states) (sh .targets) letter) IsR Digits no-r no-digit not-both (refused-begins letter)
-      (led-begins (sh .states) (sh .targets) letter) (unique-refused letter) (unique-led (sh .states) (sh .targets) letter (shaped .some) (shaped .targets))
+      (led-begins (sh .states) (sh .targets) letter) (unique-refused letter)
+      (unique-led (sh .states) (sh .targets) letter (shaped .some) (shaped .targets))
   unique-end false letter = unique-led (sh .states) 0 letter (shaped .some) (omega arith)
 
   some-end : (q : Bool) (letter : ℕ) → Some (Any (EndOf q sh letter))
@@ -258,7 +257,8 @@ module _ (sh : Shape) (shaped : Shaped sh) where
       unfolding IsR
       end-led ne h =
           end-is true (lt-ltb letter accessLetters l)
-          (either-second (Refused letter) (Led (sh .states) (sh .targets) letter) t at IsR no-r (refused-begins letter) (λ e. ne (sym (first-at t at b is) ∙ e)) h)
+          (either-second (Refused letter) (Led (sh .states) (sh .targets) letter) t at IsR no-r (refused-begins letter)
+          (λ e. ne (sym (first-at t at b is) ∙ e)) h)
 
   module _ (state letter : ℕ) {t : List ℕ} {at : ℕ} {r : Step} (is : r ≡ followAt (decimal state ++ bytes " -> ") t at) {p : ℕ} where
     pub edge-stops : r ≡ Step.Stuck p → Finds (EdgePart sh state letter) t at (stopped p)

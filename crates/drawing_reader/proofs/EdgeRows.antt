@@ -59,7 +59,9 @@ pub row-none : (sh : Shape) (state : ℕ) (t : List ℕ) (start : ℕ) (rows : L
 row-none sh state t start rows = record {
   few = omega arith;
   size = refl;
-  found = subst (λ (v : List ℕ). Finds (Items (EdgePart sh state) 0) t start (took start v)) (no-order (word rows state)) (items-none (EdgePart sh state) t start);
+  found =
+      subst (λ (v : List ℕ). Finds (Items (EdgePart sh state) 0) t start (took start v)) (no-order (word rows state))
+      (items-none (EdgePart sh state) t start);
   rest = λ i out. refl;
 }
 
@@ -83,7 +85,8 @@ module _ (sh : Shape) (shaped : Shaped sh) (state : ℕ) (t : List ℕ) (start :
     row-stop e = record {
       size = so-far .size;
       found =
-          items-stop (EdgePart sh state) t start (unique-edge sh shaped state) (some-edge sh shaped state) letter (sh .letters) l (so-far .found) (edge-is e);
+          items-stop (EdgePart sh state) t start (unique-edge sh shaped state) (some-edge sh shaped state) letter (sh .letters) l (so-far .found)
+          (edge-is e);
       rest = λ i out. so-far .rest i (λ a b. out a (omega arith));
     }
 
@@ -173,7 +176,8 @@ module _ (sh : Shape) (shaped : Shaped sh) (t : List ℕ) (start : ℕ) (rows₀
       where
         same : (s : ℕ) → s < state → rowTold (sh .letters) rows s ≡ rowTold (sh .letters) rows′ s
         same s h =
-            in-order-same (word rows s) (word rows′ s) (sh .letters) (λ a k. sym (row .rest (s * stride + a) (λ low high. omega (arith, shaped .letters))))
+            in-order-same (word rows s) (word rows′ s) (sh .letters)
+            (λ a k. sym (row .rest (s * stride + a) (λ low high. omega (arith, shaped .letters))))
 
         told : rowsTold (sh .letters) rows state ++ (rowTold (sh .letters) rows′ state ∷ []) ≡ rowsTold (sh .letters) rows′ (suc state)
         told =

@@ -37,7 +37,7 @@ fn fence_number(b: u8) -> usize
     }
 }
 
-// The mark of one of the first so many fences, or of none.
+// The mark of one of the first so many fences, or of none, which is told as 255.
 fn mark(text: &[u8], at: usize, marks: usize) -> Part
     requires { ⌜ marks ≤ 16 ⌝ }
     ensures { λ r. ⌜ Finds (MarkPart marks) (now (text .entry)) at (partTaken r) ⌝ }
