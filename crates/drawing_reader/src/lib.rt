@@ -1,5 +1,5 @@
 // A drawing read back: from its text to the image of the machine that it draws.
 mod decimal;
-mod edges;
 mod label;
 mod nodes;
+mod edges;
