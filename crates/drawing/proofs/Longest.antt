@@ -1,6 +1,6 @@
--- The longest drawing: 15 bytes of the first line, 57 of the label, 1,165 of nodes, 134,480 of edges and 2 of the last line. The numbers of 255 states
--- have 655 digits; a node has 2 bytes and its digits, an edge 20, its state's digits and where it leads, which are at most 7 for an access and 3 for
--- a fence. Assumes nothing.
+-- The longest drawing: 15 bytes of the first line, 57 of the label, 1,165 of nodes, 134,480 of edges and 2 of the last line. The numbers of 255
+-- states have 655 digits; a node has 2 bytes and its digits, an edge 20, its state's digits and where it leads, which are at most 7 for an access and
+-- 3 for a fence. Assumes nothing.
 use Prim.Native.Nat.{ℕ, zero, suc, _+_, _*_, _/_, _%_, _≤_, _<_}
 use mathlib.Core.Path.{_≡_, refl, ap}
 use mathlib.Core.Bool.{Bool, true, false, cond}
@@ -84,13 +84,13 @@ label-length h rows m =
       length-digits 1 (h .targets) (omega (arith, m .targets)),
     )
 
-nodes-length : (k : ℕ) → length (inTurn nodeLine k) ≡ length (inTurn decimal k) + 2 * k
+pub nodes-length : (k : ℕ) → length (inTurn nodeLine k) ≡ length (inTurn decimal k) + 2 * k
 unfolding inTurn
 nodes-length zero = refl
 nodes-length (suc k) =
     omega (arith, length-turn nodeLine k, length-turn decimal k, length-append (decimal k) (bytes ";\n"), nodes-length k)
 
-edge-length : (s a w : ℕ) → length (edgeLine s a w) ≡ length (decimal s) + 20 + length (leadsTo w)
+pub edge-length : (s a w : ℕ) → length (edgeLine s a w) ≡ length (decimal s) + 20 + length (leadsTo w)
 edge-length s a w =
     let rest : List ℕ = bytes " [label=\"" ++ (edgeLabel a w ++ bytes "\"];\n") in
     omega (arith, length-append (decimal s) (bytes " -> " ++ (leadsTo w ++ rest)), length-append (leadsTo w) rest)

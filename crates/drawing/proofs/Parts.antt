@@ -1,5 +1,5 @@
--- The parts of lines that the code puts: each way's word, where an edge leads, an edge by its bytes, and the whole. By the tests in their definitions. Assumes
--- nothing.
+-- The parts of lines that the code puts: each way's word, where an edge leads, an edge by its bytes, and the whole. They hold by the tests in their
+-- definitions. Assumes nothing.
 use Prim.Native.Nat.{ℕ, _/_, _%_}
 use mathlib.Core.Path.{_≡_, sym, ap, ap₂}
 use mathlib.Core.Bool.{Bool, cond}

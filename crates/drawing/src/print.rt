@@ -3,7 +3,7 @@ ghost use Prim.Native.Nat.{_+_, _*_, _≤_};
 ghost use mathlib.Core.List.{_++_};
 ghost use lib.ListN.{length};
 ghost use Rattle.ground.specs.Bytes.{bytes};
-ghost use Rattle.operations.specs.Alphabet.{lettersWith, stride};
+ghost use Rattle.operations.specs.Alphabet.{stride};
 ghost use Rattle.printing.specs.Decimal.{decimal};
 ghost use Rattle.printing.specs.Putting.{Put};
 ghost use Rattle.printing.specs.Turns.{inTurn};

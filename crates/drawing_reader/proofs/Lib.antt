@@ -5,3 +5,8 @@ pub mod Fields
 pub mod Labels
 pub mod Marks
 pub mod EdgeParts
+pub mod EdgeTexts
+pub mod EdgeRows
+pub mod EdgeLines
+pub mod Whole
+pub mod Theorems

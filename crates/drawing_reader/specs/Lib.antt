@@ -1,1 +1,2 @@
+pub mod Undrawing
 pub mod inner

@@ -2,3 +2,4 @@
 pub mod Label
 pub mod Nodes
 pub mod Edges
+pub mod Whole

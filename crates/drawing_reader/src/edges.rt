@@ -1,12 +1,13 @@
 // The edges of a drawing: a word for each state and letter, read into rows.
-ghost use Prim.Native.Nat.{ℕ, _*_, _≤_, _<_};
+ghost use Prim.Native.Nat.{_+_, _*_, _≤_, _<_};
 ghost use mathlib.Core.Path.{_≡_};
 ghost use lib.Dec.{T};
 ghost use lib.ListN.{length};
 ghost use Rattle.operations.specs.Alphabet.{stride};
 ghost use Rattle.texts.specs.Pattern.{isWord, followAt};
 ghost use Rattle.texts.specs.Telling.{Through, Word, Finds, partTaken};
-ghost use Rattle.drawing_reader.specs.inner.Edges.{fenceNumber, middle, MarkPart, RefusedLabel, Refused, Marked, LedLabel, Led, EdgeEnd, EdgePart, Shaped, ReadsRow, ReadsRows};
+ghost use Rattle.drawing_reader.specs.inner.Edges.{fenceNumber, middle, MarkPart, RefusedLabel, Refused, Marked};
+ghost use Rattle.drawing_reader.specs.inner.Edges.{LedLabel, Led, EdgeEnd, EdgePart, Shaped, ReadsRow, ReadsRows};
 use crate::decimal;
 use operations::Byte;
 use operations::Operation;
@@ -151,4 +152,45 @@ fn edge(text: &[u8], at: usize, shape: Shape, state: usize, letter: usize) -> Pa
         Step::Stuck(place) => Part::Stuck(place),
         Step::Next(past) => edge_end(text, past, shape, letter),
     }
+}
+
+// The edges of a state: their words to its row.
+fn edge_row(text: &[u8], start: usize, rows: &mut [u16], shape: Shape, state: usize) -> Step
+    requires { ⌜ Shaped shape × (state * stride + shape .letters ≤ length (now rows)) ⌝ }
+    ensures { λ r. ⌜ ReadsRow shape state (now (text .entry)) start (now (rows .entry)) r (now (rows .exit)) ⌝ }
+{
+    let letters = shape.letters;
+    let mut here = start;
+    let mut letter = 0;
+    while letter < letters {
+        match edge(text, here, shape, state, letter) {
+            Part::Stuck(place) => return Step::Stuck(place),
+            Part::Next(past, word) => {
+                rows[state * STRIDE + letter] = word as u16;
+                here = past;
+                letter += 1;
+            }
+        }
+    }
+    Step::Next(here)
+}
+
+// The edges of all states: their words to the rows.
+pub(crate) fn edge_rows(text: &[u8], start: usize, rows: &mut [u16], shape: Shape) -> Step
+    requires { ⌜ Shaped shape × (shape .states * stride ≤ length (now rows)) ⌝ }
+    ensures { λ r. ⌜ ReadsRows shape (now (text .entry)) start (now (rows .entry)) r (now (rows .exit)) ⌝ }
+{
+    let states = ground::wide(shape.states);
+    let mut here = start;
+    let mut state = 0;
+    while state < states {
+        match edge_row(text, here, rows, shape, state) {
+            Step::Stuck(place) => return Step::Stuck(place),
+            Step::Next(past) => {
+                here = past;
+                state += 1;
+            }
+        }
+    }
+    Step::Next(here)
 }

@@ -43,7 +43,8 @@ returns c =
     let letter = mark .before in
     let a = letter .before .before .args in
     put-is
-    (step-text (a .state) (a .letter) (a .word) _ _ _ (letter .letter-byte .ensures) (mark .fence-mark .ensures ∙ mark-word (a .word)) (next .next-of .ensures))
+    (step-text (a .state) (a .letter) (a .word) _ _ _ (letter .letter-byte .ensures) (mark .fence-mark .ensures ∙ mark-word (a .word))
+    (next .next-of .ensures))
     (put-then (prints-put (state .put-decimal .ensures)) (put-then (prints-put (middle .put .ensures)) (end .put-number-line .ensures)))
 
 pub put-step-spec : {M : Type 1} → statement M
