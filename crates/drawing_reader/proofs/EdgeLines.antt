@@ -168,29 +168,6 @@ module _ (sh : Shape) (shaped : Shaped sh) where
       items-written (RowPart sh) (rowTold (sh .letters) rows) (stateEdges (sh .letters) rows) (sh .states)
       (λ s l. row-written s (word rows s) (λ a k. good s a l k))
 
-  -- the same of any values
-  pub rows-again : (values : List (List ℕ)) (t : List ℕ) → RowsAre sh values t → RowsPart sh values t
-  rows-again values t are = subst (RowsPart sh values) (sym (are .text)) (subst (λ (v : List (List ℕ)). RowsPart sh v lines) whole written)
-    where
-      value : ℕ → ℕ → ℕ
-      value s = at (getD values s [])
-
-      row : ℕ → List ℕ
-      row s = inOrder (value s) (sh .letters)
-
-      lines : List ℕ
-      lines = inTurn (λ (s : ℕ). inTurn (λ (a : ℕ). edgeLine s a (value s a)) (sh .letters)) (sh .states)
-
-      written : RowsPart sh (inOrder row (sh .states)) lines
-      written =
-          items-written (RowPart sh) row (λ (s : ℕ). inTurn (λ (a : ℕ). edgeLine s a (value s a)) (sh .letters)) (sh .states)
-          (λ s l. row-written s (value s) (λ a k. are .words s a l k))
-
-      whole : inOrder row (sh .states) ≡ values
-      whole =
-          in-order-all [] values row (sh .states) (are .states)
-          (λ s l. sym (in-order-all 0 (getD values s []) (value s) (sh .letters) (are .letters s l) (λ a k. refl)))
-
   -- the rows that were read, and what they were read from
   pub rows-of : (rows t : List ℕ) → RowsPart sh (rowsTold (sh .letters) rows (sh .states)) t
       → ((s a : ℕ) → s < sh .states → a < sh .letters → EdgeWord sh a (word rows s a)) × (t ≡ inTurn (stateEdges (sh .letters) rows) (sh .states))

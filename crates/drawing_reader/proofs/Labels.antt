@@ -76,10 +76,6 @@ some-target upstream = some-then (Named 32) (FromWay upstream) (some-named 32) (
 pub some-upstream : Some (Any FromUpstream)
 some-upstream = some-then (Named 32) FromTarget (some-named 32) some-target
 
-pub some-label : Some (Any LabelPart)
-some-label =
-    some-then (Word (bytes "digraph shim {\nlabel=\"")) (λ _. FromUpstream) (some-word (bytes "digraph shim {\nlabel=\"")) (λ _. some-upstream)
-
 -- of a text at most one beginning is a label, and it tells one
 pub unique-blank : Unique (Named 32)
 unique-blank = unique-named 32 (λ no. no)

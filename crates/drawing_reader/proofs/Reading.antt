@@ -28,7 +28,7 @@ use Rattle.drawing_reader.specs.declared.label.LabelRead.{LabelRead}
 use Rattle.drawing_reader.specs.Undrawing.{Drawing}
 use Rattle.drawing_reader.specs.inner.Label.{Label, LabelPart, LabelFormed, labelOf, labelFor, labelTaken, takenBy, Fielded}
 use Rattle.drawing_reader.specs.inner.Nodes.{NodesPart, nodesTaken}
-use Rattle.drawing_reader.specs.inner.Edges.{RowsPart, Shaped, ReadsRows, rowsTaken, rowsTold}
+use Rattle.drawing_reader.specs.inner.Edges.{RowsPart, Shaped, ReadsRows, rowsTaken}
 use Rattle.drawing_reader.specs.inner.Whole.{Drawn, shapeFor, DrawingEnd, FromEdges, FromNodes, WholePart, drawnFor, drawnTaken, ReadsDrawn}
 use Rattle.drawing_reader.proofs.Labels.{unique-label, told-formed}
 use Rattle.drawing_reader.proofs.NodeLines.{unique-nodes, nodes-text}
@@ -201,7 +201,8 @@ module _ (t : List ℕ) (h : Header) (rows : List ℕ) {r : Step} (read : ReadsD
   pub read-passed : {k : ℕ} → r ≡ Step.Next k → (k ≡ length t → ⊥) → (Drawing t → ⊥) × Longest Drawing t k
   read-passed e more = no-drawing (whole-passed WholePart t unique-whole (whole e) more)
 
-  module _ {k n : ℕ} (e : r ≡ Step.Next k) (all : k ≡ length t) (up : Fielded (h .upstream)) (target : Fielded (h .target)) (states : n ≡ h .states) where
+  module _ {k n : ℕ} (e : r ≡ Step.Next k) (all : k ≡ length t) (up : Fielded (h .upstream)) (target : Fielded (h .target))
+      (states : n ≡ h .states) where
     absent : (s f : ℕ) → s < h .states → h .ups ≤ f → f < 16 → word rows s (accessLetters + f) ≡ 0
     absent s f l m few =
         let letter : (s * stride + (accessLetters + f)) % stride ≡ accessLetters + f = omega arith in

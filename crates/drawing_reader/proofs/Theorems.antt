@@ -1,6 +1,6 @@
 -- What a reader wants to find of drawings that are read: a drawing tells one machine. Assumes nothing.
-use Prim.Native.Nat.{ℕ, _+_, _-_, _<_, _≤_}
-use mathlib.Core.Path.{_≡_, refl, sym, ap, ap₂, subst, _∙_}
+use Prim.Native.Nat.{ℕ, _+_, _-_, _<_}
+use mathlib.Core.Path.{_≡_, sym, ap, ap₂, subst, _∙_}
 use mathlib.Core.List.{List, []}
 use native.Mathlib.Omega.{arith}
 use native.Mathlib.Decide.{decLt}
@@ -8,7 +8,6 @@ use lib.ListN.{length, take, getD}
 use lib.Seq.{take-length}
 use Rattle.ground.specs.Bytes.{at}
 use Rattle.operations.specs.Alphabet.{accessLetters, lettersWith, stride}
-use Rattle.printing.specs.Name.{unfilled}
 use Rattle.image.specs.declared.machine.Header.{Header}
 use Rattle.image.specs.Image.{word, imageOf, Canonical}
 use Rattle.image.proofs.SameWords.{image-of-words}
@@ -25,7 +24,8 @@ abbrev withFields : Header → List ℕ → List ℕ → Header
 withFields h upstream target =
     record { way = h .way; states = h .states; ups = h .ups; targets = h .targets; upstream = upstream; target = target }
 
-module _ (h h′ : Header) (rows rows′ : List ℕ) (can : Canonical h rows) (can′ : Canonical h′ rows′) (same : drawingOf h rows ≡ drawingOf h′ rows′) where
+module _ (h h′ : Header) (rows rows′ : List ℕ) (can : Canonical h rows) (can′ : Canonical h′ rows′)
+    (same : drawingOf h rows ≡ drawingOf h′ rows′) where
   -- what the two tell
   told : drawnFor h rows ≡ drawnFor h′ rows′
   told =
@@ -57,11 +57,13 @@ module _ (h h′ : Header) (rows rows′ : List ℕ) (can : Canonical h rows) (c
 
       by : Dec (a < lettersWith (h .ups)) → word rows s a ≡ word rows′ s a
       by (yes k) =
-          sym (row h rows l k) ∙ ap (λ (d : Drawn). at (getD (d .words) s []) a) told ∙ row h′ rows′ (omega (arith, states, l)) (omega (arith, ups, k))
+          sym (row h rows l k) ∙ ap (λ (d : Drawn). at (getD (d .words) s []) a) told ∙ row h′ rows′ (omega (arith, states, l))
+          (omega (arith, ups, k))
         where
           row : (g : Header) (r : List ℕ) → s < g .states → a < lettersWith (g .ups) → at (getD (drawnFor g r .words) s []) a ≡ word r s a
           row g r l k =
-              ap (λ (x : List ℕ). at x a) (at-in-order (rowTold (lettersWith (g .ups)) r) [] (g .states) s l) ∙ at-in-order (word r s) 0 (lettersWith (g .ups)) a k
+              ap (λ (x : List ℕ). at x a) (at-in-order (rowTold (lettersWith (g .ups)) r) [] (g .states) s l) ∙ at-in-order (word r s) 0
+              (lettersWith (g .ups)) a k
       by (no k) =
           let e : accessLetters + (a - accessLetters) ≡ a = omega arith in
           ap (word rows s) (sym e) ∙ can .absent s (a - accessLetters) l (omega arith) (omega arith)

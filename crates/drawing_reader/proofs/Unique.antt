@@ -17,13 +17,15 @@ undrawn-one t (over l) (over m) = refl
 undrawn-one t (over l) (departs m none k) = absurd (omega arith)
 undrawn-one t (over l) (undrawn m can e) = absurd (omega arith)
 undrawn-one t (departs m none k) (over l) = absurd (omega arith)
-undrawn-one t (departs {k = j} m none h) (departs {k = k} m′ none′ h′) = ap (λ (i : ℕ). refuses (Refusal.NotOfTheForm i)) (longest-one Drawing t j k h h′)
+undrawn-one t (departs {k = j} m none h) (departs {k = k} m′ none′ h′) =
+    ap (λ (i : ℕ). refuses (Refusal.NotOfTheForm i)) (longest-one Drawing t j k h h′)
 undrawn-one t (departs m none k) (undrawn {h = h} {rows = rows} m′ can e) = absurd (none (h, rows, can, e))
 undrawn-one t (undrawn m can e) (over l) = absurd (omega arith)
 undrawn-one t (undrawn {h = h} {rows = rows} m can e) (departs m′ none k) = absurd (none (h, rows, can, e))
 undrawn-one t (undrawn {h = h} {rows = rows} m can e) (undrawn {h = h′} {rows = rows′} m′ can′ e′) =
     ap (λ (image : List ℕ). gives image 0 0) (drawing-one h h′ rows rows′ can can′ (sym e ∙ e′))
 
-pub undraw-one : (text out : List ℕ) {r r′ : Answer} {after after′ : List ℕ} → Answers (Undrawn text) out r after → Answers (Undrawn text) out r′ after′
+pub undraw-one : (text out : List ℕ) {r r′ : Answer} {after after′ : List ℕ} → Answers (Undrawn text) out r after
+    → Answers (Undrawn text) out r′ after′
     → (r ≡ r′) × (after ≡ after′)
 undraw-one text out = answers-one (λ g g′ p q. undrawn-one text p q)

@@ -6,16 +6,17 @@ use mathlib.Core.Bool.{false}
 use mathlib.Core.List.{List, [], _∷_, _++_, append-assoc}
 use native.Mathlib.Omega.{arith}
 use native.Mathlib.Decide.{decLt}
-use lib.ListN.{length, getD, List·getD-eq-default}
+use lib.ListN.{getD, List·getD-eq-default}
 use Rattle.ground.specs.Bytes.{at, bytes}
 use Rattle.operations.specs.Alphabet.{accessLetters, lettersWith, stride}
 use Rattle.printing.specs.Name.{unfilled}
 use Rattle.printing.specs.Turns.{inTurn}
 use Rattle.texts.specs.Language.{Any, Some, Unique}
 use Rattle.texts.specs.NamePart.{NameFormed}
-use Rattle.texts.specs.Telling.{After, Through, Word}
+use Rattle.texts.specs.Telling.{After, Word}
 use Rattle.texts.proofs.Language.{seq-join, seq-apart}
-use Rattle.texts.proofs.Telling.{unique-told, unique-then, unique-through, unique-after, unique-word, some-told, some-then, some-through, some-after, some-word}
+use Rattle.texts.proofs.Telling.{unique-told, unique-then, unique-through, unique-after, unique-word}
+use Rattle.texts.proofs.Telling.{some-told, some-then, some-through, some-after, some-word}
 use Rattle.image.specs.declared.machine.Header.{Header}
 use Rattle.image.specs.Image.{word, Canonical, NameField}
 use Rattle.image.proofs.Fronts.{at-listed}
@@ -26,11 +27,12 @@ use Rattle.drawing_reader.specs.inner.Label.{Label, LabelPart, LabelForm
 use Rattle.drawing_reader.specs.inner.Nodes.{NodesPart}
 use Rattle.drawing_reader.specs.inner.Edges.{RowsPart, RowsAre, Shaped, EdgeWord, WordOf, rowTold, rowsTold}
 use Rattle.drawing_reader.specs.inner.Whole.{Drawn, shapeFor, DrawingEnd, FromEdges, FromNodes, WholePart, headerFor, rowsFor, drawnFor}
-use Rattle.drawing_reader.proofs.Fields.{field-formed, field-name, name-formed, name-field}
+use Rattle.drawing_reader.proofs.Fields.{field-formed, field-name, name-formed}
 use Rattle.drawing_reader.proofs.Labels.{unique-label, label-text, text-label, label-line}
 use Rattle.drawing_reader.proofs.NodeLines.{unique-nodes, some-nodes, nodes-text, text-nodes}
 use Rattle.drawing_reader.proofs.EdgeRows.{unique-rows, some-rows}
-use Rattle.drawing_reader.proofs.EdgeLines.{in-order-all, access-word, word-access, fence-word, word-fence, rows-told, rows-written, rows-of, rows-begin}
+use Rattle.drawing_reader.proofs.EdgeLines.{in-order-all, access-word, word-access, fence-word}
+use Rattle.drawing_reader.proofs.EdgeLines.{word-fence, rows-told, rows-written, rows-of, rows-begin}
 
 -- a label and a number of nodes that were told make a shape
 pub shaped-for : (l : Label) (n : ℕ) → LabelFormed l → 1 ≤ n → n ≤ 255 → Shaped (shapeFor l n)
@@ -121,7 +123,12 @@ parts-of d t (l, whole) = from-label (seq-apart (LabelPart l) (FromNodes l d) t 
                 lines = nodes-text n x node
 
 whole-of : (d : Drawn) (t : List ℕ) → PartsOf d t → WholePart d t
-whole-of d t p = subst (WholePart d) (sym text) (d .label, seq-join (LabelPart (d .label)) (FromNodes (d .label) d) _ _ (text-label (d .label) (p .label-formed)) nodes)
+whole-of d t p =
+    subst (WholePart d) (sym text) (
+      d .label,
+      seq-join (LabelPart (d .label)) (FromNodes (d .label) d) _ _
+          (text-label (d .label) (p .label-formed)) nodes,
+    )
   where
     sh : Shape
     sh = shapeFor (d .label) (d .states)
@@ -137,15 +144,21 @@ whole-of d t p = subst (WholePart d) (sym text) (d .label, seq-join (LabelPart (
 
     edges : FromEdges (d .label) (d .states) d (48 ∷ behind)
     edges =
-        subst (FromEdges (d .label) (d .states) d) (ap (λ (u : List ℕ). u ++ bytes "}\n") (begin .1))
-        (d .words, seq-join (RowsPart sh (d .words)) (DrawingEnd (d .label) (d .states) (d .words) d) (p .edges) (bytes "}\n") (p .edges-part) (tt, refl, refl))
+        subst (FromEdges (d .label) (d .states) d) (ap (λ (u : List ℕ). u ++ bytes "}\n") (begin .1)) (
+          d .words,
+          seq-join (RowsPart sh (d .words)) (DrawingEnd (d .label) (d .states) (d .words) d) (p .edges) (bytes "}\n") (p .edges-part)
+              (tt, refl, refl),
+        )
 
     lines : List ℕ
     lines = inTurn nodeLine (d .states) ++ bytes "0"
 
     nodes : FromNodes (d .label) d (lines ++ behind)
-    nodes =
-        (d .states, seq-join (NodesPart (d .states)) (After 48 (FromEdges (d .label) (d .states)) d) lines behind (text-nodes (d .states) (p .some) (p .few)) edges)
+    nodes = (
+      d .states,
+      seq-join (NodesPart (d .states)) (After 48 (FromEdges (d .label) (d .states)) d) lines behind
+          (text-nodes (d .states) (p .some) (p .few)) edges,
+    )
 
     text : t ≡ labelText (d .label) ++ (lines ++ behind)
     text =
@@ -158,7 +171,8 @@ module _ (h : Header) (rows : List ℕ) where
   sh : Shape
   sh = shapeFor (labelFor h) (h .states)
 
-  drawing-text : labelText (labelFor h) ++ (inTurn nodeLine (h .states) ++ (inTurn (stateEdges (lettersWith (h .ups)) rows) (h .states) ++ bytes "}\n"))
+  drawing-text : labelText (labelFor h)
+      ++ (inTurn nodeLine (h .states) ++ (inTurn (stateEdges (lettersWith (h .ups)) rows) (h .states) ++ bytes "}\n"))
       ≡ drawingOf h rows
   drawing-text =
       let rest : List ℕ = inTurn nodeLine (h .states) ++ (inTurn (stateEdges (lettersWith (h .ups)) rows) (h .states) ++ bytes "}\n") in
@@ -193,7 +207,9 @@ module _ (h : Header) (rows : List ℕ) where
         upstream = named up (p .label-formed .upstream);
         target = named target (p .label-formed .target);
         accesses = (λ s a m l. access-word sh a (word rows s a) l (good .0 s a m (omega arith)));
-        fences = (λ s f m l. fence-word sh (accessLetters + f) (word rows s (accessLetters + f)) (omega arith) (good .0 s (accessLetters + f) m (omega arith)));
+        fences =
+            (λ s f m l. fence-word sh (accessLetters + f) (word rows s (accessLetters + f)) (omega arith)
+            (good .0 s (accessLetters + f) m (omega arith)));
         absent = absent;
       }
 

@@ -1,12 +1,12 @@
 -- A machine's image hangs on its header and on the words of its states and letters alone: rows that agree there have the same image, and are a
 -- machine of the layout together. Assumes nothing.
-use Prim.Native.Nat.{ℕ, _+_, _*_, _/_, _%_, _<_, _≤_}
+use Prim.Native.Nat.{ℕ, _+_, _*_, _/_, _%_, _<_}
 use mathlib.Core.Path.{_≡_, refl, sym, ap, ap₂, subst, _∙_}
-use mathlib.Core.Bool.{Bool, cond}
+use mathlib.Core.Bool.{cond}
 use mathlib.Core.List.{List}
 use native.Mathlib.Omega.{arith}
 use native.Mathlib.Decide.{decLt}
-use borrow.Author.Tests.{lt-ltb, le-ltb}
+use borrow.Author.Tests.{le-ltb}
 use lib.Dec.{ltb}
 use Rattle.operations.specs.Alphabet.{stride}
 use Rattle.layout.specs.declared.places.Place.{Place}
@@ -15,7 +15,7 @@ use Rattle.layout.specs.inner.Standing.{Stands}
 use Rattle.layout.proofs.Standing.{stands}
 use Rattle.layout.proofs.Sums.{check-same}
 use Rattle.image.specs.declared.machine.Header.{Header}
-use Rattle.image.specs.Image.{listed, word, half, used, valueAs, valueAt, checkFor, byteAt, sizeOf, imageOf, AccessWord, FenceWord, Canonical}
+use Rattle.image.specs.Image.{word, half, used, valueAs, valueAt, checkFor, byteAt, imageOf, AccessWord, FenceWord, Canonical}
 use Rattle.image.proofs.Fronts.{length-listed, at-listed, is-listed}
 
 module _ (h : Header) (rows rows′ : List ℕ) (same : (s a : ℕ) → s < h .states → a < stride → word rows s a ≡ word rows′ s a) where

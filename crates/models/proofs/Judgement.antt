@@ -147,7 +147,8 @@ judges-lines (suc n) t p at la = by (ℕ-discrete (getD t at 0) 102) (λ q. judg
     by (yes e) rest =
         let line = judges-fence t (Lines n) (some-lines n) next
         (λ name table place l. rest (fenceFrom t p (record { name = name; table = table; next = place })) place l) at la in
-        tested _ (eq-eqb _ _ e) (judged-first formless (FenceThen (Lines n)) EndLine s at (onLine (fenceAt t at) next) (λ b. b ≡ 101) ends-e (not-end e) line)
+        tested _ (eq-eqb _ _ e) (judged-first formless (FenceThen (Lines n)) EndLine s at (onLine (fenceAt t at) next) (λ b. b ≡ 101) ends-e
+        (not-end e) line)
     by (no ne) rest =
         let last = judges-end t p at la in
         tested _ (ne-eqb _ _ ne)

@@ -10,7 +10,8 @@ use native.Mathlib.Nat.{add-assoc, le-antisymm}
 use lib.ListN.{length, take, drop, getD, length-append, length-drop, take-append-drop}
 use lib.Seq.{take-add, take-at, drop-at, length-take-le, take-append-add, drop-drop}
 use Rattle.texts.specs.declared.Step.{Step}
-use Rattle.texts.specs.Language.{Language, Begins, Longest, Seq, Telling, Any, SeqOn, Or, Some, PrefixFree, Unique, Reads, found, stuck, shift, onStep, Judged, Judges}
+use Rattle.texts.specs.Language.{Language, Begins, Longest, Seq, Telling, Any, SeqOn, Or, Some}
+use Rattle.texts.specs.Language.{PrefixFree, Unique, Reads, found, stuck, shift, onStep, Judged, Judges}
 
 module _ (s rest : List ℕ) (m j : ℕ) (lm : m ≤ j) (lj : j ≤ length s) where
   cut : take j s ++ rest ≡ take m s ++ (take (j - m) (drop m s) ++ rest)
@@ -55,7 +56,8 @@ longest-iff L M to back s k h = record {
 
 -- where the first part is found, the second decides
 module _ {A : Type 0} (L : Telling A) (M : A → Language) where
-  pub next-decides : Unique L → (s : List ℕ) (n k : ℕ) (a : A) → n ≤ length s → L a (take n s) → Longest (M a) (drop n s) k → Longest (SeqOn L M) s (n + k)
+  pub next-decides : Unique L → (s : List ℕ) (n k : ℕ) (a : A) → n ≤ length s → L a (take n s) → Longest (M a) (drop n s) k
+      → Longest (SeqOn L M) s (n + k)
   next-decides unique s n k a ln l h = record {
     within = inside;
     begins = (rest, (a, (n, reach, subst (L a) (sym (take-cut s rest n (n + k) (omega arith) inside)) l, subst (M a) (sym rest-is) (h .begins .1))));
@@ -143,12 +145,14 @@ module _ (L M : Language) where
   seq-on k s = longest-iff (SeqOn {A = Unit} (λ _. L) (λ _. M)) (Seq L M) (λ t x. x .1) (λ t x. (tt, x)) s k
 
   pub longest-next : PrefixFree L → (s : List ℕ) (n k : ℕ) → n ≤ length s → L (take n s) → Longest M (drop n s) k → Longest (Seq L M) s (n + k)
-  longest-next free s n k ln l h = seq-on (n + k) s (next-decides (λ _. L) (λ _. M) (λ s m n a b lm ln x y. (free s m n lm ln x y, refl)) s n k tt ln l h)
+  longest-next free s n k ln l h =
+      seq-on (n + k) s (next-decides (λ _. L) (λ _. M) (λ s m n a b lm ln x y. (free s m n lm ln x y, refl)) s n k tt ln l h)
 
   pub longest-stuck : (s : List ℕ) → ((n : ℕ) → n ≤ length s → L (take n s) → ⊥) → Some M → (k : ℕ) → Longest L s k → Longest (Seq L M) s k
   longest-stuck s none some k h =
       seq-on k s
-      (first-decides (λ _. L) (λ _. M) s (λ n _. none n) (λ _ _ _. some) k (longest-iff L (Any {A = Unit} (λ _. L)) (λ t x. (tt, x)) (λ t x. x .1) s k h))
+      (first-decides (λ _. L) (λ _. M) s (λ n _. none n) (λ _ _ _. some) k
+      (longest-iff L (Any {A = Unit} (λ _. L)) (λ t x. (tt, x)) (λ t x. x .1) s k h))
 
 -- a choice that the first byte has settled: texts of the other form begin with other bytes
 module _ (L M : Language) (s : List ℕ) (P : ℕ → Type 0) (begin : (a : List ℕ) → M a → P (getD a 0 0)) (apart : P (getD s 0 0) → ⊥) where

@@ -1,6 +1,6 @@
 -- Following a number in decimal and the byte after it: found whole, or stopped at the longest beginning that a number below the bound allows,
 -- since each number that has been read is complete as it stands. Assumes nothing.
-use Prim.Native.Nat.{ℕ, zero, suc, _+_, _-_, _*_, _/_, _%_, _≤_, _<_, zero-le, suc-le-suc}
+use Prim.Native.Nat.{ℕ, zero, suc, _+_, _-_, _/_, _%_, _≤_, _<_, zero-le, suc-le-suc}
 use mathlib.Core.Path.{_≡_, refl, sym, ap, ap₂, subst, _∙_}
 use mathlib.Core.Bool.{Bool, true, false, not, _&&_, cond}
 use mathlib.Core.List.{List, [], _∷_, _++_, append-nil, append-assoc}
@@ -8,17 +8,16 @@ use native.Mathlib.Omega.{arith}
 use native.Mathlib.Nat.{le-of-suc-le-suc}
 use native.Mathlib.Decide.{decLt, ℕ-discrete}
 use borrow.Author.Tests.{eq-eqb, ne-eqb, lt-ltb, ltb-true, le-leb, lt-leb}
-use lib.Dec.{T, eqb, leb, ltb, eqb→eq}
+use lib.Dec.{T, eqb, leb, ltb}
 use lib.ListN.{length, take, drop, getD, length-append}
-use lib.Seq.{take-nil, length-take-le}
-use Rattle.printing.specs.Decimal.{digit, decimal}
+use lib.Seq.{length-take-le}
+use Rattle.printing.specs.Decimal.{decimal}
 use Rattle.printing.proofs.Decimals.{one-digit, more-digits}
 use Rattle.texts.specs.declared.Part.{Part}
 use Rattle.texts.specs.Language.{Begins, Longest, Telling, Any, Some, Unique}
 use Rattle.texts.specs.Pattern.{isWord}
 use Rattle.texts.specs.NumberPart.{isDigit, withDigit, goesOn, partFurther, partShift, numberRest, numberStep, numberAt}
-use Rattle.texts.specs.Telling.{Numbered, partTaken, Taken, took, stopped, Finds, finds, departs}
-use Rattle.texts.proofs.Language.{longest-iff}
+use Rattle.texts.specs.Telling.{Numbered, partTaken, stopped, Finds, finds, departs}
 
 -- v becomes w by these digits
 data Digits : ℕ → ℕ → List ℕ → Type 0 where
@@ -182,7 +181,8 @@ module _ (L : Telling ℕ) (none-left : (w : ℕ) → L w [] → ⊥) where
       longest = record { within = zero-le; begins = (c, x); longest = (λ j l y. most j s never l (y .0) (y .1 .0) (y .1 .1)) }
 
   -- and one that goes on behind its first byte as another
-  goes : (M : Telling ℕ) (b : ℕ) → ((w : ℕ) (t : List ℕ) → M w t → L w (b ∷ t)) → ((w : ℕ) (t : List ℕ) → L w (b ∷ t) → M w t) → (s : List ℕ) (r : Part)
+  goes : (M : Telling ℕ) (b : ℕ) → ((w : ℕ) (t : List ℕ) → M w t → L w (b ∷ t)) → ((w : ℕ) (t : List ℕ) → L w (b ∷ t) → M w t)
+      → (s : List ℕ) (r : Part)
       → Finds M s 0 (partTaken r) → Finds L (b ∷ s) 0 (partTaken (partFurther r))
   goes M b close apart s (Part.Next p w) (finds {n = n} is ln x) = finds {n = suc n} {p = suc p} (omega arith) (suc-le-suc ln) (close w (take n s) x)
   goes M b close apart s (Part.Stuck p) (departs {k = k} is h none) = departs {k = suc k} {p = suc p} (omega arith) longest nothing
@@ -234,7 +234,9 @@ module _ (bound e : ℕ) where
 
   rest-finds : (v : ℕ) → v < bound → (s : List ℕ) → Finds (More v) s 0 (partTaken (numberRest bound e v s))
   unfolding numberRest
-  rest-finds v lv [] = stops (More v) (none-left v) (e ∷ [], (v, complete v lv)) [] (λ w b t rest is x. let bad : _≡_ {A = ℕ} 0 (suc (length t)) = ap length is in omega arith)
+  rest-finds v lv [] =
+      stops (More v) (none-left v) (e ∷ [], (v, complete v lv)) []
+      (λ w b t rest is x. let bad : _≡_ {A = ℕ} 0 (suc (length t)) = ap length is in omega arith)
   rest-finds v lv (b ∷ s) = by (ℕ-discrete b e) (goesOn bound v b) refl (λ l. rest-finds (withDigit v b) l s)
     where
       N : Part
@@ -377,7 +379,9 @@ digits-word done = tt
 digits-word (more {b = b} {ds = ds} d some rest) = digit-word b ds d (digits-word rest)
 
 pub decimal-word : (n : ℕ) → T (isWord (decimal n))
-decimal-word n = let r : Read n = read n in subst (λ (x : List ℕ). T (isWord x)) (sym (r .text)) (digit-word (r .first) (r .others) (r .is-first) (digits-word (r .digits)))
+decimal-word n =
+    let r : Read n = read n in subst (λ (x : List ℕ). T (isWord x)) (sym (r .text))
+    (digit-word (r .first) (r .others) (r .is-first) (digits-word (r .digits)))
 
 pub first-digit : (n : ℕ) → (b : ℕ) × (ds : List ℕ) × (decimal n ≡ b ∷ ds) × (48 ≤ b) × (b ≤ 57) × (1 ≤ n → 49 ≤ b)
 first-digit n =

@@ -11,11 +11,12 @@ use lib.Dec.{T}
 use lib.ListN.{length, take, drop, getD, length-append, length-drop, take-append-drop}
 use lib.Seq.{take-add, take-append-le, take-take, drop-drop, drop-at, drop-cons, take-at, take-length, length-take-le}
 use Rattle.ground.specs.Bytes.{nameByte}
-use Rattle.texts.specs.Language.{Language, Begins, Longest, Seq, Telling, Any, SeqOn, Or, Some, Unique, Reads, found, stuck, shift}
+use Rattle.texts.specs.Language.{Begins, Longest, Seq, Telling, Any, SeqOn, Or, Some, Unique, Reads, found, stuck, shift}
 use Rattle.texts.specs.declared.Step.{Step}
 use Rattle.texts.specs.Pattern.{Follows, isWord, followAt}
 use Rattle.texts.specs.NamePart.{NameFormed, Ended, nameRun, nameAt}
-use Rattle.texts.specs.Telling.{Then, Through, Items, Either, After, Word, Named, wordTaken, nameTaken, Taken, took, stopped, Finds, finds, departs}
+use Rattle.texts.specs.Telling.{Then, Through, Items, Either, After, Word, Named}
+use Rattle.texts.specs.Telling.{wordTaken, nameTaken, Taken, took, stopped, Finds, finds, departs}
 use Rattle.texts.proofs.Language.{seq-join, length-begun, longest-one, longest-iff, longest-first, next-decides, first-decides}
 use Rattle.texts.proofs.Pattern.{same-word, own-word, reads-follow}
 use Rattle.texts.proofs.NamePart.{free-ended, reads-name, run-whole, some-name}
@@ -24,7 +25,8 @@ use Rattle.texts.proofs.NamePart.{free-ended, reads-name, run-whole, so
 drop-take : (i n : ℕ) (s : List ℕ) → i ≤ n → n ≤ length s → drop i (take n s) ≡ take (n - i) (drop i s)
 drop-take i n s l ln =
     let e : n ≡ i + (n - i) = omega arith in
-    ap (λ (k : ℕ). drop i (take k s)) e ∙ ap (drop i) (take-add i (n - i) s) ∙ drop-at (take i s) (take (n - i) (drop i s)) i (length-take-le i s (omega arith))
+    ap (λ (k : ℕ). drop i (take k s)) e ∙ ap (drop i) (take-add i (n - i) s) ∙ drop-at (take i s) (take (n - i) (drop i s)) i
+    (length-take-le i s (omega arith))
 
 -- one part and then another
 module _ {A B : Type 0} (L : Telling A) (M : A → Telling B) where
@@ -53,9 +55,11 @@ module _ {A B : Type 0} (L : Telling A) (M : A → Telling B) where
       by (a, i, li, l, p) (a′, i′, li′, l′, q) =
           let first = ul s i i′ a a′ (omega arith) (omega arith) l l′ in
           let q′ : M a c (take (n - i) (drop i s)) =
-          subst (λ (j : ℕ). M a c (take (n - j) (drop j s))) (sym (first .0)) (subst (λ (z : A). M z c (take (n - i′) (drop i′ s))) (sym (first .1)) q) in
+          subst (λ (j : ℕ). M a c (take (n - j) (drop j s))) (sym (first .0))
+          (subst (λ (z : A). M z c (take (n - i′) (drop i′ s))) (sym (first .1)) q) in
           let same : i ≡ i′ = first .0 in
-          let second = um a (take i s) l (drop i s) (m - i) (n - i) b c (omega (arith, length-drop i s)) (omega (arith, length-drop i s, same)) p q′ in
+          let second = um a (take i s) l (drop i s) (m - i) (n - i) b c (omega (arith, length-drop i s))
+          (omega (arith, length-drop i s, same)) p q′ in
           (omega (arith, second .0, same), second .1)
 
   pub unique-then : Unique L → ((a : A) → Unique (M a)) → Unique (Then L M)
@@ -206,7 +210,8 @@ module _ {A : Type 0} (L M : Telling A) where
     pub either-first : {r : Taken A} (Q : ℕ → Type 0) → (Q 0 → ⊥) → ((a : A) (x : List ℕ) → M a x → Q (getD x 0 0)) → (Q (getD (drop at t) 0 0) → ⊥)
         → Finds L t at r → Finds (Either L M) t at r
     either-first Q not begin apart (finds e ln l) = finds e ln (inl l)
-    either-first Q not begin apart (departs {k = k} e h none) = departs e (longest-iff _ _ to back s k (longest-first (Any L) (Any M) s Q first apart k h)) neither
+    either-first Q not begin apart (departs {k = k} e h none) =
+        departs e (longest-iff _ _ to back s k (longest-first (Any L) (Any M) s Q first apart k h)) neither
       where
         s : List ℕ
         s = drop at t
@@ -239,7 +244,8 @@ either-second L M t at P not begin apart h = by (either-first M L t at P not beg
     by (finds e ln x) = finds e ln (swapped M L _ _ x)
     by (departs {k = k} e h none) =
         departs e
-        (longest-iff (Any (Either M L)) (Any (Either L M)) (λ x y. (y .0, swapped M L (y .0) x (y .1))) (λ x y. (y .0, swapped L M (y .0) x (y .1))) (drop at t) k h)
+        (longest-iff (Any (Either M L)) (Any (Either L M)) (λ x y. (y .0, swapped M L (y .0) x (y .1))) (λ x y. (y .0, swapped L M (y .0) x (y .1)))
+        (drop at t) k h)
         (λ n a ln x. none n a ln (swapped L M a _ x))
 
 -- what is left of a part behind the byte with which all its texts begin
@@ -367,7 +373,8 @@ finds-one L u t at (finds {n = n} {a = a} e ln l) (finds {n = m} {a = b} f lm x)
     ap₂ took (e ∙ ap (λ (i : ℕ). at + i) (same .0) ∙ sym f) (same .1)
 finds-one L u t at (finds {n = n} {a = a} e ln l) (departs f h none) = absurd (none n a ln l)
 finds-one L u t at (departs f h none) (finds {n = n} {a = a} e ln l) = absurd (none n a ln l)
-finds-one L u t at (departs {k = j} e h none) (departs {k = k} f g none′) = ap stopped (e ∙ ap (λ (i : ℕ). at + i) (longest-one (Any L) (drop at t) j k h g) ∙ sym f)
+finds-one L u t at (departs {k = j} e h none) (departs {k = k} f g none′) =
+    ap stopped (e ∙ ap (λ (i : ℕ). at + i) (longest-one (Any L) (drop at t) j k h g) ∙ sym f)
 
 -- a part that is the whole text
 module _ {A : Type 0} (L : Telling A) (t : List ℕ) {p : ℕ} where
@@ -400,9 +407,11 @@ module _ {A : Type 0} (L : Telling A) (t : List ℕ) {p : ℕ} where
               by : Dec (n < j) → j ≤ n
               by (no g) = omega arith
               by (yes g) =
-                  let front : take n all ≡ take n t = take-append-le n (take j t) rest (omega (arith, length-take-le j t lj)) ∙ take-take n j t (omega arith) in
+                  let front : take n all ≡ take n t =
+                  take-append-le n (take j t) rest (omega (arith, length-take-le j t lj)) ∙ take-take n j t (omega arith) in
                   let long : length all ≡ j + length rest = length-begun t rest j lj in
-                  let same = u all n (length all) a b (omega (arith, long, g)) (omega arith) (subst (L a) (sym front) l) (subst (L b) (sym (take-length all)) x) in
+                  let same = u all n (length all) a b (omega (arith, long, g)) (omega arith) (subst (L a) (sym front) l)
+                  (subst (L b) (sym (take-length all)) x) in
                   omega (arith, same .0, long, g)
 
       not-whole : Any L t → ⊥

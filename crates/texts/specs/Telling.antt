@@ -7,7 +7,7 @@ use lib.ListN.{length, take, drop}
 use Rattle.printing.specs.Decimal.{decimal}
 use Rattle.texts.specs.declared.Step.{Step}
 use Rattle.texts.specs.declared.Part.{Part}
-use Rattle.texts.specs.Language.{Language, Longest, Seq, Telling, Any}
+use Rattle.texts.specs.Language.{Longest, Seq, Telling, Any}
 use Rattle.texts.specs.NamePart.{NameFormed, nameRun}
 
 -- one part, and then one whose form may depend on what the first told; the second tells for both

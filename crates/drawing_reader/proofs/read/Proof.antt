@@ -40,7 +40,8 @@ returns-2 c =
     let nodes = c .before .before in
     let label = nodes .before .before .before .before .before in
     let t = now (label .before .before .before .args .text) in (
-      label-go t (label .label .result) (label .label .ensures .0) (nodes .before .before .before .step2 .given .1) _ _ _ (nodes .read-nodes .ensures .0),
+      label-go t (label .label .result) (label .label .ensures .0) (nodes .before .before .before .step2 .given .1) _ _ _
+          (nodes .read-nodes .ensures .0),
       nodes .read-nodes .ensures .1,
       nodes .read-nodes .ensures .2,
     )

@@ -22,7 +22,8 @@ header-for-requires-2 : tie.Need-header-for-requires-2
 header-for-requires-2 c κs =
     let nodes = c .before .before .before in
     let e = nodes .before .before .before in
-    let few = nodes-few (labelOf (e .args .label)) (e .pre .1) (now (e .args .text)) (e .args .at) (nodes .nodes .ensures) (c .before .first .given .1) in
+    let few = nodes-few (labelOf (e .args .label)) (e .pre .1) (now (e .args .text)) (e .args .at) (nodes .nodes .ensures)
+    (c .before .first .given .1) in
     (e .pre .0, few .1)
 
 read-edges-requires : tie.Need-read-edges-requires
@@ -38,7 +39,8 @@ returns : tie.Need-returns
 returns c =
     let nodes = c .before .before .before .before in
     let e = nodes .before .before .before in (
-      nodes-stop (labelOf (e .args .label)) (e .pre .1) (now (e .args .text)) (e .args .at) (nodes .nodes .ensures) (c .before .before .place .given .1) _ _,
+      nodes-stop (labelOf (e .args .label)) (e .pre .1) (now (e .args .text)) (e .args .at) (nodes .nodes .ensures)
+          (c .before .before .place .given .1) _ _,
       c .header-for .ensures .2,
       c .header-for .ensures .3,
     )
@@ -53,7 +55,8 @@ returns-2 c =
     let nodes = header .before .before .before .before in
     let e = nodes .before .before .before in (
       nodes-go (labelOf (e .args .label)) (e .pre .1) (now (e .args .text)) (e .args .at) (nodes .nodes .ensures)
-          (header .before .before .first .given .1) _ _ _ (header .header-for2 .ensures .0) (header .header-for2 .ensures .1) (edges .read-edges .ensures),
+          (header .before .before .first .given .1) _ _ _ (header .header-for2 .ensures .0) (header .header-for2 .ensures .1)
+          (edges .read-edges .ensures),
       header .header-for2 .ensures .2,
       header .header-for2 .ensures .3,
     )

@@ -1,6 +1,5 @@
 -- `undraw` meets its contract: what was read is a drawing and its machine, or the longest beginning of one. Assumes nothing.
-use mathlib.Core.Path.{refl, sym}
-use native.Mathlib.Omega.{arith}
+use mathlib.Core.Path.{sym}
 use borrow.Author.Needs.{needs}
 use denote.Ref.{now}
 use lib.Seq.{length-take-le}
@@ -30,7 +29,8 @@ returns-2 : tie.Need-returns-2
 returns-2 c =
     let read = c .before .before .before .before .before .before in
     let e = read .before .before .before .before .before in
-    let no = read-passed (now (e .args .text)) (read .read .result .header) _ (read .read .ensures .0) (c .before .before .step2 .given .1) (c .if2 .taken) in
+    let no = read-passed (now (e .args .text)) (read .read .result .header) _ (read .read .ensures .0) (c .before .before .step2 .given .1)
+    (c .if2 .taken) in
     record { given = refuses _; right = departs (search needs) (no .0) (no .1); delivered = delivers-refusal _ }
 
 wide-requires : tie.Need-wide-requires
@@ -65,7 +65,8 @@ returns-4 c =
     let whole = counted .before in
     let read = whole .before .before .before .before .before .before in
     let e = read .before .before .before .before .before in
-    let is = read-whole (now (e .args .text)) (read .read .result .header) _ (read .read .ensures .0) (whole .before .before .step2 .given .1) (whole .if2 .left)
+    let is = read-whole (now (e .args .text)) (read .read .result .header) _ (read .read .ensures .0) (whole .before .before .step2 .given .1)
+    (whole .if2 .left)
     (read .read .ensures .1) (read .read .ensures .2) (counted .wide .ensures .0) in
     record { given = gives _ 0 0; right = undrawn (search needs) (is .0) (is .1); delivered = write .write .ensures }
 

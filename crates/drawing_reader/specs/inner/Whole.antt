@@ -9,7 +9,6 @@ use Rattle.operations.specs.Alphabet.{lettersWith, stride}
 use Rattle.texts.specs.declared.Step.{Step}
 use Rattle.texts.specs.Language.{Telling}
 use Rattle.texts.specs.Telling.{Then, Through, After, Word, Taken, took, stopped, Finds}
-use Rattle.printing.specs.Name.{unfilled}
 use Rattle.image.specs.declared.machine.Header.{Header}
 use Rattle.image.specs.Image.{listed}
 use Rattle.drawing_reader.specs.declared.edges.Shape.{Shape}

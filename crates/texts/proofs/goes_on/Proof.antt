@@ -1,6 +1,5 @@
 -- `goes_on` meets its contract: each `return` by the test that led there. Assumes nothing.
 use mathlib.Core.Path.{sym, _∙_}
-use native.Mathlib.Omega.{arith}
 use borrow.Author.Tests.{not-true, not-false, eq-eqb, ne-eqb}
 use borrow.Author.Needs.{needs}
 use Rattle.texts.proofs.NumberPart.{true-low}
