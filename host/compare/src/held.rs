@@ -70,7 +70,7 @@ fn shown(bytes: &[u8]) -> String {
 const HEADER: &str = include_str!("../../../include/shim.h");
 
 /// The most that a call may write, by its own line in the header.
-fn most(call: &str) -> u64 {
+pub fn most(call: &str) -> u64 {
     let size = match call {
         "builtin" | "model" => "SHIM_TEXT_OUT",
         "run" => "SHIM_RUN_OUT",
