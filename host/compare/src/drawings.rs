@@ -3,7 +3,7 @@
 use crate::border::Back;
 use crate::held;
 use crate::inputs::*;
-use crate::parts::{around, done, some_image, written};
+use crate::parts::{around, some_image, written};
 use shim_model::image::{self, BLOCK};
 use shim_model::limits::{DRAWING_BYTES, MODEL_FENCES, NAME_BYTES, STATES};
 use shim_model::machine::{Machine, Step};
@@ -90,28 +90,37 @@ fn longest() -> Machine {
 
 /// Machines and texts at the limits.
 pub fn limits(random: &mut Random) {
+    for states in [1, STATES - 1, STATES] {
+        for upstream_fences in [0, MODEL_FENCES] {
+            for target_fences in [0, MODEL_FENCES] {
+                let machine = handmade(random, states, [upstream_fences, target_fences]);
+                both_ways(random, &image::write(&machine));
+            }
+        }
+    }
+    let (upstream, target) = AT_THE_LIMITS[2];
+    let generated = held::generate(0, upstream, target, IMAGE_ROOM);
+    both_ways(random, written(&generated));
     let longest = both_ways(random, &image::write(&longest()));
     assert_eq!(longest.len() as u64, held::most("draw"));
-    for states in [1, STATES - 1, STATES] {
-        for fences in [
-            [0, 0],
-            [MODEL_FENCES, 0],
-            [0, MODEL_FENCES],
-            [MODEL_FENCES; 2],
-        ] {
-            let machine = handmade(random, states, fences);
-            both_ways(random, &image::write(&machine));
-        }
+    texts_at_the_limits(&longest);
+}
+
+fn texts_at_the_limits(longest: &[u8]) {
+    for length in [0, 1, NAME_BYTES, NAME_BYTES + 1] {
+        let (name, other) = ("n".repeat(length), "m".to_string());
+        undrawn(&with_names(longest, &[name.clone(), other.clone()]));
+        undrawn(&with_names(longest, &[other, name]));
     }
-    for (upstream, target) in AT_THE_LIMITS {
-        let back = held::generate(0, upstream, target, IMAGE_ROOM);
-        if done(&back) {
-            both_ways(random, written(&back));
-        }
-    }
+    // A node more than there may be, and one less than the edges lead to.
+    let line = b"254;\n";
+    let at = longest.windows(line.len()).position(|part| part == line);
+    let (before, rest) = longest.split_at(at.expect("the last node"));
+    undrawn(&[before, line, b"255;\n", &rest[line.len()..]].concat());
+    undrawn(&[before, &rest[line.len()..]].concat());
     for length in [DRAWING_BYTES - 1, DRAWING_BYTES, DRAWING_BYTES + 1] {
         undrawn(&vec![b'd'; length]);
-        let mut long = longest.clone();
+        let mut long = longest.to_vec();
         long.resize(length, b'\n');
         undrawn(&long);
         undrawn(&longest.repeat(2)[..length]);
@@ -120,7 +129,8 @@ pub fn limits(random: &mut Random) {
     drawn(b"");
 }
 
-/// Cut, and changed to some other bytes, at every byte; doubled, as a whole and line by line.
+/// Cut, and changed to some other bytes, at every byte; every number another;
+/// doubled, as a whole and line by line.
 pub fn drawing_at_every_byte(random: &mut Random) {
     let states = 1 + random.below(12);
     let fences = [(); 2].map(|()| random.below(4));
@@ -129,6 +139,7 @@ pub fn drawing_at_every_byte(random: &mut Random) {
     for at in 0..sound.len() {
         tried_at(random, &sound, at, 6);
     }
+    other_numbers(&sound);
     undrawn(&sound.repeat(2));
     let lines: Vec<&[u8]> = sound.split_inclusive(|byte| *byte == b'\n').collect();
     for (at, line) in lines.iter().enumerate() {
@@ -147,6 +158,25 @@ fn tried_at(random: &mut Random, sound: &[u8], at: usize, times: usize) {
         let mut changed = sound.to_vec();
         changed[at] = value;
         undrawn(&changed);
+    }
+}
+
+/// Each number in turn by one more or less, at the ends of its range, or with another digit.
+fn other_numbers(sound: &[u8]) {
+    let is_digit = |at: usize| sound.get(at).is_some_and(u8::is_ascii_digit);
+    let begins = |at: &usize| is_digit(*at) && (*at == 0 || !is_digit(*at - 1));
+    for at in (0..sound.len()).filter(begins) {
+        let digits = (at..).take_while(|place| is_digit(*place)).count();
+        let own = std::str::from_utf8(&sound[at..at + digits]).expect("digits");
+        // A name may have digits that make no such number.
+        let near = own.parse().map_or(vec![], |number: u32| {
+            vec![number.saturating_add(1), number.saturating_sub(1)]
+        });
+        let far = [0, 15, 16, 17, 254, 255, 256];
+        let shown = far.into_iter().chain(near).map(|number| number.to_string());
+        for other in shown.chain([format!("0{own}"), format!("{own}0"), String::new()]) {
+            undrawn(&[&sound[..at], other.as_bytes(), &sound[at + digits..]].concat());
+        }
     }
 }
 

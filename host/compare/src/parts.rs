@@ -66,7 +66,7 @@ const fn part(name: &'static str, tried: fn(&mut Random), rounds: usize) -> Part
     }
 }
 
-pub fn done(back: &Back) -> bool {
+fn done(back: &Back) -> bool {
     back.answer[0] == 0
 }
 
