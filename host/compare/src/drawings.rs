@@ -90,13 +90,16 @@ fn longest() -> Machine {
 
 /// Machines and texts at the limits.
 pub fn limits(random: &mut Random) {
-    for states in [1, STATES - 1, STATES] {
-        for upstream_fences in [0, MODEL_FENCES] {
-            for target_fences in [0, MODEL_FENCES] {
-                let machine = handmade(random, states, [upstream_fences, target_fences]);
-                both_ways(random, &image::write(&machine));
-            }
-        }
+    const MOST: usize = MODEL_FENCES;
+    for (states, fences) in [
+        (1, [0, 0]),
+        (1, [MOST, 0]),
+        (1, [0, MOST]),
+        (STATES, [0, 0]),
+        (STATES, [MOST, MOST]),
+    ] {
+        let machine = handmade(random, states, fences);
+        both_ways(random, &image::write(&machine));
     }
     let (upstream, target) = AT_THE_LIMITS[2];
     let generated = held::generate(0, upstream, target, IMAGE_ROOM);

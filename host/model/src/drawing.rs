@@ -14,7 +14,7 @@ use std::sync::OnceLock;
 const OPENING: &str = "digraph shim {\n";
 const CLOSING: &str = "}\n";
 const LABEL: &str = "label=\"";
-const LINE_END: &str = "\";\n";
+const LABEL_END: &str = "\";\n";
 const ARROW: &str = " -> ";
 const EDGE_LABEL: &str = " [label=\"";
 const EDGE_END: &str = "\"];\n";
@@ -49,7 +49,7 @@ pub fn write(machine: &Machine) -> Vec<u8> {
     let way = machine.way.word();
     let states = machine.states.len();
     let mut text = format!(
-        "{OPENING}{LABEL}{upstream} {target} {way} {ups} {targets}{LINE_END}{}",
+        "{OPENING}{LABEL}{upstream} {target} {way} {ups} {targets}{LABEL_END}{}",
         nodes(states)
     );
     let operations = alphabet(ups);
@@ -81,10 +81,10 @@ pub fn read(text: &[u8]) -> Result<Machine, Refusal> {
     }
 }
 
-/// The machine that agrees so far agrees with the text before `place`. Of all
-/// that were tried, the best agreed for `longest` bytes: that is the longest
-/// beginning of the text that begins some drawing, for every option can be
-/// gone on from to a whole drawing.
+/// What was chosen so far agrees with the text up to `place`. Of all that was
+/// tried the best agreed for `longest` bytes. That is the longest beginning of
+/// the text that begins some drawing, for after every option there is a way to
+/// the end of one.
 struct Search<'a> {
     text: &'a [u8],
     place: usize,
@@ -166,7 +166,7 @@ impl Search<'_> {
                 .into_iter(),
         )?;
         let upstream_fences = self.count(" ")?;
-        let target_fences = self.count(LINE_END)?;
+        let target_fences = self.count(LABEL_END)?;
         let states = self.states()?;
         let edges = Edges::new(states, upstream_fences, target_fences);
         let states = (0..states).map(|state| edges.row(self, state));
