@@ -79,7 +79,7 @@ extern "C" {
 /* shim_generate, shim_image_read and shim_undraw: SHIM_IMAGE_LIMIT */
 
 /*
- * Stack that a thread must have left when it calls shim_generate or shim_list. Every other call does with
+ * Stack that a thread must have left when it calls shim_generate, shim_list or shim_draw. Every other call does with
  * SHIM_STACK_OTHERS. The proofs speak of a machine with endless stack, so these two numbers are not proved but measured, on
  * all three processors, and rounded up: shim_generate uses 430,000 bytes, shim_list 512,000, no other more than 18,000.
  */
@@ -89,7 +89,7 @@ extern "C" {
 /* Refusals, with their places. */
 #define SHIM_DONE 0
 #define SHIM_REFUSED_OVER_LIMIT 1       /* a text, stream, image or drawing is over its limit; 0 */
-#define SHIM_REFUSED_TEXT 2             /* a text is not of the form; the length of its longest beginning that still is */
+#define SHIM_REFUSED_TEXT 2             /* a text or drawing is not of the form; length of the longest beginning that is */
 #define SHIM_REFUSED_NAME_REPEATS 3     /* a fence name repeats; the first byte of the earliest that does */
 #define SHIM_REFUSED_NO_OPERATION 4     /* a byte is no operation; its index */
 #define SHIM_REFUSED_NO_SUCH_FENCE 5    /* the upstream model has no such fence; its index */
@@ -207,8 +207,8 @@ uint64_t shim_list(const uint8_t *input, size_t input_length, uint8_t *out, size
 uint64_t shim_draw(const uint8_t *image, size_t image_length, uint8_t *out, size_t out_length, struct shim_answer *answer);
 
 /*
- * Reads a drawing and writes its machine's image: the one that was drawn, with the names that the drawing has now. Takes
- * the form above to the byte, and what shim_draw writes is all that there is of it.
+ * Reads a drawing and writes its machine's image: the one that was drawn, with the names that the label has now. A text is
+ * accepted exactly where shim_draw writes it for some image.
  *   drawing, drawing_length  at most SHIM_DRAWING_LIMIT
  *   out, out_length          for the image; SHIM_IMAGE_LIMIT is enough
  * Refusals: 1; 2; 7.
