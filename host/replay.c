@@ -11,7 +11,7 @@
 #include <stdlib.h>
 #include <string.h>
 
-enum { GUARD = 64, ROOM = 1 << 17 };
+enum { GUARD = 64, ROOM = 1 << 19 };
 
 struct region {
     uint8_t *at; /* null where it is empty */
@@ -63,7 +63,8 @@ static const struct shape {
     const char *name;
     int numbers, regions, further;
 } shapes[] = {{"builtin", 1, 0, 0}, {"model", 0, 1, 0},      {"compare", 0, 2, 1},   {"run", 1, 3, 0},
-              {"generate", 1, 2, 0}, {"image_read", 0, 1, 4}, {"image_run", 1, 2, 0}, {"list", 0, 1, 0}};
+              {"generate", 1, 2, 0}, {"image_read", 0, 1, 4}, {"image_run", 1, 2, 0}, {"list", 0, 1, 0},
+              {"draw", 0, 1, 0},     {"undraw", 0, 1, 0}};
 
 static const struct shape *shape_of(const struct region *name)
 {
@@ -86,7 +87,9 @@ static uint64_t call(const struct shape *shape, uint64_t n, const struct region 
     case 4: return shim_generate(n, r[0].at, r[0].length, r[1].at, r[1].length, out, room, a);
     case 5: return shim_image_read(r[0].at, r[0].length, out, room, further, a);
     case 6: return shim_image_run(r[0].at, r[0].length, n, r[1].at, r[1].length, out, room, a);
-    default: return shim_list(r[0].at, r[0].length, out, room, a);
+    case 7: return shim_list(r[0].at, r[0].length, out, room, a);
+    case 8: return shim_draw(r[0].at, r[0].length, out, room, a);
+    default: return shim_undraw(r[0].at, r[0].length, out, room, a);
     }
 }
 

@@ -15,8 +15,8 @@
 enum { STACK = 8 << 20, MARK = 0xA5 };
 
 static uint8_t upstream[SHIM_TEXT_LIMIT], target[SHIM_TEXT_LIMIT], image[SHIM_IMAGE_LIMIT], input[SHIM_LIST_INPUT_LIMIT];
-static uint8_t stream[SHIM_STREAM_LIMIT], out[SHIM_LIST_OUT];
-static size_t upstream_length, target_length, image_length, input_length;
+static uint8_t stream[SHIM_STREAM_LIMIT], out[SHIM_LIST_OUT], drawing[SHIM_DRAWING_OUT];
+static size_t upstream_length, target_length, image_length, input_length, drawing_length;
 static struct shim_answer answer;
 static uint64_t numbers[4];
 
@@ -39,6 +39,12 @@ static void image_run(void)
     shim_image_run(image, image_length, 0, stream, sizeof stream, out, sizeof out, &answer);
 }
 static void list(void) { shim_list(input, input_length, out, sizeof out, &answer); }
+static void draw(void)
+{
+    shim_draw(image, image_length, drawing, sizeof drawing, &answer);
+    drawing_length = (size_t)answer.written;
+}
+static void undraw(void) { shim_undraw(drawing, drawing_length, out, sizeof out, &answer); }
 
 static const struct {
     const char *name;
@@ -47,7 +53,8 @@ static const struct {
 } calls[] = {{"builtin", builtin, SHIM_STACK_OTHERS},      {"model", model, SHIM_STACK_OTHERS},
              {"compare", compare, SHIM_STACK_OTHERS},      {"run", run, SHIM_STACK_OTHERS},
              {"generate", generate, SHIM_STACK_GENERATE},  {"image_read", image_read, SHIM_STACK_OTHERS},
-             {"image_run", image_run, SHIM_STACK_OTHERS},  {"list", list, SHIM_STACK_GENERATE}};
+             {"image_run", image_run, SHIM_STACK_OTHERS},  {"list", list, SHIM_STACK_GENERATE},
+             {"draw", draw, SHIM_STACK_GENERATE},          {"undraw", undraw, SHIM_STACK_OTHERS}};
 
 static void stop(const char *why)
 {

@@ -2,7 +2,7 @@
  * shim.h: the shim library for a translator written in C.
  *
  * A shim receives the memory operations of one guest thread under an upstream model and passes them to a processor with a
- * target model, adding fences. These calls read models, run shims, generate a shim's state machine and store it.
+ * target model, adding fences. These calls read models, run shims, generate a shim's state machine, store it and draw it.
  *
  * Every call
  * - takes every input. What is wrong with it is told by a refusal, with a number (SHIM_REFUSED_...) and a place;
@@ -29,6 +29,21 @@
  *
  * A stream is one byte for each operation: `l` ld, `L` cld, `s` st, `S` cst, and `0` to `9`, `A` to `F` for fences 0 to 15:
  * the upstream model's fences in a stream that goes in, the target model's in one that comes out.
+ *
+ * A drawing is a machine as a graph in the DOT language, for Graphviz and for people. One line feed after each line and
+ * nothing else; what stands in capitals is filled in:
+ *
+ *     digraph shim {
+ *     label="UPSTREAM TARGET WAY UPSTREAM_FENCES TARGET_FENCES";
+ *     STATE;                                 (one such line for each state, from 0 up)
+ *     STATE -> NEXT [label="OPERATION MARK"];
+ *     STATE -> refused [label="OPERATION !"];
+ *     }
+ *
+ * In the label stand both models' names, `full` or `sparing` and the two numbers of fences, 0 to 16. After the states comes
+ * one edge for each state and each operation, state by state, the operations in the order l, L, s, S, then the upstream
+ * model's fences from 0 up. MARK is the byte of the target's fence that is inserted, or `-` for none, as it always is for an
+ * upstream fence. An access that is refused has an edge to `refused`. Numbers are decimal, without leading zeros.
  */
 #ifndef SHIM_H
 #define SHIM_H
@@ -49,6 +64,7 @@ extern "C" {
 #define SHIM_STREAM_LIMIT 4096      /* operations of a stream */
 #define SHIM_IMAGE_LIMIT 7168       /* bytes of an image, 14 blocks of 512 */
 #define SHIM_LIST_INPUT_LIMIT 32768 /* bytes that shim_list takes */
+#define SHIM_DRAWING_LIMIT 262144   /* bytes of a drawing */
 #define SHIM_SITUATION_LIMIT 4096   /* situations that a shim may reach */
 #define SHIM_STATE_LIMIT 255        /* states of a machine */
 #define SHIM_BUILTINS 16            /* built-in models are numbered from 0 to 15 */
@@ -59,10 +75,11 @@ extern "C" {
 #define SHIM_RUN_OUT 8191        /* shim_run: nothing stands before the first access */
 #define SHIM_IMAGE_RUN_OUT 8192  /* shim_image_run: a state may put a fence there */
 #define SHIM_LIST_OUT 67261      /* shim_list */
-/* shim_generate and shim_image_read: SHIM_IMAGE_LIMIT */
+#define SHIM_DRAWING_OUT 135719  /* shim_draw */
+/* shim_generate, shim_image_read and shim_undraw: SHIM_IMAGE_LIMIT */
 
 /*
- * Stack that a thread must have left when it calls shim_generate or shim_list. Every other call does with
+ * Stack that a thread must have left when it calls shim_generate, shim_list or shim_draw. Every other call does with
  * SHIM_STACK_OTHERS. The proofs speak of a machine with endless stack, so these two numbers are not proved but measured, on
  * all three processors, and rounded up: shim_generate uses 430,000 bytes, shim_list 512,000, no other more than 18,000.
  */
@@ -71,8 +88,8 @@ extern "C" {
 
 /* Refusals, with their places. */
 #define SHIM_DONE 0
-#define SHIM_REFUSED_OVER_LIMIT 1       /* a text, stream or image is over its limit; 0 */
-#define SHIM_REFUSED_TEXT 2             /* a text is not of the form; the length of its longest beginning that still is */
+#define SHIM_REFUSED_OVER_LIMIT 1       /* a text, stream, image or drawing is over its limit; 0 */
+#define SHIM_REFUSED_TEXT 2             /* a text or drawing is not of the form; length of the longest beginning that is */
 #define SHIM_REFUSED_NAME_REPEATS 3     /* a fence name repeats; the first byte of the earliest that does */
 #define SHIM_REFUSED_NO_OPERATION 4     /* a byte is no operation; its index */
 #define SHIM_REFUSED_NO_SUCH_FENCE 5    /* the upstream model has no such fence; its index */
@@ -180,6 +197,24 @@ uint64_t shim_image_run(const uint8_t *image, size_t image_length, uint64_t star
  * fences of the listing's run.
  */
 uint64_t shim_list(const uint8_t *input, size_t input_length, uint8_t *out, size_t out_length, struct shim_answer *answer);
+
+/*
+ * Writes the drawing of an image's machine. Wants SHIM_STACK_GENERATE bytes of stack.
+ *   image, image_length  at most SHIM_IMAGE_LIMIT
+ *   out, out_length      for the drawing; SHIM_DRAWING_OUT is enough
+ * Refusals: image: 1, 10, 11; 7.
+ */
+uint64_t shim_draw(const uint8_t *image, size_t image_length, uint8_t *out, size_t out_length, struct shim_answer *answer);
+
+/*
+ * Reads a drawing and writes its machine's image: the one that was drawn, with the names that the label has now. A text is
+ * accepted exactly where shim_draw writes it for some image.
+ *   drawing, drawing_length  at most SHIM_DRAWING_LIMIT
+ *   out, out_length          for the image; SHIM_IMAGE_LIMIT is enough
+ * Refusals: 1; 2; 7.
+ */
+uint64_t shim_undraw(const uint8_t *drawing, size_t drawing_length, uint8_t *out, size_t out_length,
+                     struct shim_answer *answer);
 
 #ifdef __cplusplus
 }

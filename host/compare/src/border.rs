@@ -68,6 +68,20 @@ mod c {
             out_length: usize,
             answer: *mut u64,
         ) -> u64;
+        pub fn shim_draw(
+            image: *const u8,
+            image_length: usize,
+            out: *mut u8,
+            out_length: usize,
+            answer: *mut u64,
+        ) -> u64;
+        pub fn shim_undraw(
+            drawing: *const u8,
+            drawing_length: usize,
+            out: *mut u8,
+            out_length: usize,
+            answer: *mut u64,
+        ) -> u64;
     }
 }
 
@@ -283,5 +297,17 @@ pub fn image_run(image: &[u8], start: u64, stream: &[u8], room: usize) -> Back {
 pub fn list(input: &[u8], room: usize) -> Back {
     call::<0>(&[input], room, |p, out, _, answer| unsafe {
         c::shim_list(p[0], input.len(), out, room, answer)
+    })
+}
+
+pub fn draw(image: &[u8], room: usize) -> Back {
+    call::<0>(&[image], room, |p, out, _, answer| unsafe {
+        c::shim_draw(p[0], image.len(), out, room, answer)
+    })
+}
+
+pub fn undraw(drawing: &[u8], room: usize) -> Back {
+    call::<0>(&[drawing], room, |p, out, _, answer| unsafe {
+        c::shim_undraw(p[0], drawing.len(), out, room, answer)
     })
 }

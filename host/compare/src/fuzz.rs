@@ -6,7 +6,7 @@ use crate::inputs::{builtin_text, list_input, AT_THE_LIMITS};
 use shim_model::answer::Refusal;
 use shim_model::machine::{explore, Machine};
 use shim_model::rule::{Shim, Way};
-use shim_model::{image, text};
+use shim_model::{drawing, image, text};
 use std::fs;
 use std::io::Result;
 use std::path::Path;
@@ -182,6 +182,17 @@ entry!(fuzz_list, a, {
     }
 });
 
+entry!(fuzz_draw, a, {
+    let (renew, room) = (a.number(), a.word(3) as usize % (1 << 18));
+    let image = checked(renew, a.rest());
+    held::draw(&image, room);
+});
+
+entry!(fuzz_undraw, a, {
+    let room = a.room();
+    held::undraw(a.rest(), room);
+});
+
 fn checked(renew: u64, image_bytes: &[u8]) -> Vec<u8> {
     if renew == 0 {
         image_bytes.to_vec()
@@ -248,6 +259,7 @@ pub fn write_seeds(folder: &str) -> Result<()> {
     )?;
     let (mut runs, mut machines) = (vec![], vec![]);
     let (mut reads, mut image_runs, mut lists) = (vec![], vec![], vec![]);
+    let (mut draws, mut undraws) = (vec![], vec![]);
     for (upstream, target, way, stream) in RUNS {
         let image = image_of(upstream, target, way);
         let (upstream, target) = (builtin_text(upstream), builtin_text(target));
@@ -258,7 +270,11 @@ pub fn write_seeds(folder: &str) -> Result<()> {
             let begun = || new().number(renew).room(ROOM);
             reads.push(begun().rest(&image));
             image_runs.push(begun().number(0).region(stream).rest(&image));
+            let begun = new().number(renew).rest(&[0]).room(ROOM);
+            draws.push(begun.rest(&image));
         }
+        let machine = image::read(&image).expect("an image");
+        undraws.push(new().room(ROOM).rest(&drawing::write(&machine)));
         let input = list_input(&upstream, &target, Way::BOTH[way as usize], stream);
         lists.push(new().rest(&[0]).room(ROOM).rest(&input));
     }
@@ -266,5 +282,7 @@ pub fn write_seeds(folder: &str) -> Result<()> {
     write(folder, "generate", machines)?;
     write(folder, "image_read", reads)?;
     write(folder, "image_run", image_runs)?;
-    write(folder, "list", lists)
+    write(folder, "list", lists)?;
+    write(folder, "draw", draws)?;
+    write(folder, "undraw", undraws)
 }

@@ -70,13 +70,14 @@ fn shown(bytes: &[u8]) -> String {
 const HEADER: &str = include_str!("../../../include/shim.h");
 
 /// The most that a call may write, by its own line in the header.
-fn most(call: &str) -> u64 {
+pub fn most(call: &str) -> u64 {
     let size = match call {
         "builtin" | "model" => "SHIM_TEXT_OUT",
         "run" => "SHIM_RUN_OUT",
         "image_run" => "SHIM_IMAGE_RUN_OUT",
-        "generate" | "image_read" => "SHIM_IMAGE_LIMIT",
+        "generate" | "image_read" | "undraw" => "SHIM_IMAGE_LIMIT",
         "list" => "SHIM_LIST_OUT",
+        "draw" => "SHIM_DRAWING_OUT",
         _ => return 0,
     };
     let defined = |line: &str| {
@@ -187,4 +188,15 @@ pub fn image_run(image: &[u8], start: u64, stream: &[u8], room: usize) -> Back {
 pub fn list(input: &[u8], room: usize) -> Back {
     let wanted = modelled(room, |out| (calls::list(input, out), vec![]));
     held("list", &[], &[input], border::list(input, room), wanted)
+}
+
+pub fn draw(image: &[u8], room: usize) -> Back {
+    let wanted = modelled(room, |out| (calls::draw(image, out), vec![]));
+    held("draw", &[], &[image], border::draw(image, room), wanted)
+}
+
+pub fn undraw(drawing: &[u8], room: usize) -> Back {
+    let wanted = modelled(room, |out| (calls::undraw(drawing, out), vec![]));
+    let got = border::undraw(drawing, room);
+    held("undraw", &[], &[drawing], got, wanted)
 }

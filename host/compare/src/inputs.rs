@@ -11,7 +11,7 @@ use shim_model::{builtin, text};
 const NAME_BYTES: &[u8] = b"abcdefghijklmnopqrstuvwxyzABCDEFGHIJKLMNOPQRSTUVWXYZ0123456789_";
 
 /// Bytes that mean something somewhere, and some that mean nothing anywhere.
-pub const TELLING: &[u8] = b" \n-NMSLlsSmpfew_=0189AFGaz.*\r\t\0\x7f\x80\xfd\xfe\xff";
+pub const TELLING: &[u8] = b" \n-NMSLlsSmpfewr_=>;\"[]{}!0189AFGaz.*\r\t\0\x7f\x80\xfd\xfe\xff";
 
 /// Pairs of models at the limits, upstream and target.
 pub const AT_THE_LIMITS: [(&[u8], &[u8]); 5] = [

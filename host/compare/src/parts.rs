@@ -1,6 +1,7 @@
 //! What is tried. Each part draws from a generator, so a seed tells it all.
 
 use crate::border::Back;
+use crate::drawings;
 use crate::held;
 use crate::inputs::*;
 use shim_model::image::BLOCK;
@@ -14,7 +15,7 @@ use shim_model::rule::Way;
 use shim_model::stream::{alphabet, bytes, operations, Operation};
 use shim_model::text;
 
-/// Larger than anything that a call writes.
+/// Larger than anything that a call writes, drawings aside.
 const ROOM: usize = 70_000;
 
 const WAYS: [u64; 2] = [0, 1];
@@ -36,6 +37,12 @@ pub const WHOLE: &[Part] = &[
     part("a text at every byte", text_at_every_byte, 3),
     part("an image at every byte", image_at_every_byte, 3),
     part("a list's input at every byte", list_at_every_byte, 2),
+    part(
+        "a drawing at every byte",
+        drawings::drawing_at_every_byte,
+        3,
+    ),
+    part("the largest drawings", drawings::large_drawings, 1),
 ];
 
 /// All that is drawn.
@@ -46,6 +53,8 @@ pub const DRAWN: &[Part] = &[
     part("damaged texts", damaged_texts, 1_500),
     part("damaged images", damaged_images, 600),
     part("damaged streams and lists", damaged_streams, 400),
+    part("random drawings", drawings::random_drawings, 100),
+    part("damaged drawings", drawings::damaged_drawings, 300),
     part("noise", noise_everywhere, 400),
 ];
 
@@ -61,13 +70,13 @@ fn done(back: &Back) -> bool {
     back.answer[0] == 0
 }
 
-fn written(back: &Back) -> &[u8] {
+pub fn written(back: &Back) -> &[u8] {
     &back.out[..back.answer[2] as usize]
 }
 
 /// Makes a call with plenty of room, then with rooms around what it wrote.
-fn around(random: &mut Random, call: impl Fn(usize) -> Back) -> Back {
-    let back = call(ROOM);
+pub fn around(random: &mut Random, plenty: usize, call: impl Fn(usize) -> Back) -> Back {
+    let back = call(plenty);
     if done(&back) {
         for room in rooms(random, back.answer[2]) {
             call(room);
@@ -80,7 +89,7 @@ fn around(random: &mut Random, call: impl Fn(usize) -> Back) -> Back {
 
 fn built_ins(random: &mut Random) {
     for number in (0..40).chain([255, 256, 257, 1 << 32, u64::MAX]) {
-        around(random, |room| held::builtin(number, room));
+        around(random, ROOM, |room| held::builtin(number, room));
     }
     for first in 0..16 {
         for second in 0..16 {
@@ -92,17 +101,20 @@ fn built_ins(random: &mut Random) {
 fn limits(random: &mut Random) {
     for (upstream, target) in AT_THE_LIMITS {
         for way in WAYS {
-            around(random, |room| held::generate(way, upstream, target, room));
+            around(random, ROOM, |room| {
+                held::generate(way, upstream, target, room)
+            });
             for stream in [&b"ll"[..], b"x"] {
                 let word = Way::BOTH[way as usize];
                 let input = list_input(upstream, target, word, stream);
-                around(random, |room| held::list(&input, room));
+                around(random, ROOM, |room| held::list(&input, room));
             }
         }
     }
     texts_at_the_limits(random);
     lengths_at_the_limits(random);
     numbers_out_of_range();
+    drawings::limits(random);
 }
 
 fn texts_at_the_limits(random: &mut Random) {
@@ -114,7 +126,7 @@ fn texts_at_the_limits(random: &mut Random) {
             fence.name = format!("fence_number__{number:02}");
         }
         text_bytes = text::write(&full);
-        around(random, |room| held::model(&text_bytes, room));
+        around(random, ROOM, |room| held::model(&text_bytes, room));
         held::compare(&text_bytes, &builtin_text(0));
     }
     for length in [TEXT_BYTES - 1, TEXT_BYTES, TEXT_BYTES + 1, 2 * TEXT_BYTES] {
@@ -136,14 +148,16 @@ fn lengths_at_the_limits(random: &mut Random) {
     ] {
         // Every access but the first gets a fence: the longest output there is.
         let stream = vec![b'l'; length];
-        around(random, |room| {
+        around(random, ROOM, |room| {
             held::run(1, &upstream, &target, &stream, room)
         });
         for start in [0, 1] {
-            around(random, |room| held::image_run(&image, start, &stream, room));
+            around(random, ROOM, |room| {
+                held::image_run(&image, start, &stream, room)
+            });
         }
         let input = list_input(&upstream, &target, Way::Full, &stream);
-        around(random, |room| held::list(&input, room));
+        around(random, ROOM, |room| held::list(&input, room));
         let unread = vec![b'x'; length];
         held::run(1, &upstream, &target, &unread, ROOM);
         held::image_run(&image, 0, &unread, ROOM);
@@ -193,25 +207,28 @@ fn numbers_out_of_range() {
     }
 }
 
-/// A machine with all that is done with it: made, read back, run from every
-/// state, listed, and held against the direct run.
+/// A machine with all that is done with it: made, read back, drawn and undrawn,
+/// run from every state, listed, and held against the direct run.
 fn machine(random: &mut Random, way: u64, upstream: &[u8], target: &[u8], stream: &[u8]) {
-    let generated = around(random, |room| held::generate(way, upstream, target, room));
+    let generated = around(random, ROOM, |room| {
+        held::generate(way, upstream, target, room)
+    });
     let input = list_input(upstream, target, Way::BOTH[way as usize], stream);
-    around(random, |room| held::list(&input, room));
+    around(random, ROOM, |room| held::list(&input, room));
     if !done(&generated) {
         return;
     }
     let image = written(&generated);
-    let read = around(random, |room| held::image_read(image, room));
+    let read = around(random, ROOM, |room| held::image_read(image, room));
     assert_eq!(written(&read), image, "an image is written back as it was");
+    drawings::both_ways(random, image);
     for start in 0..=read.further[1] {
         let length = random.below(12);
         let part = self::stream_for(random, upstream, length);
         held::image_run(image, start, &part, ROOM);
     }
     let by_rule = held::run(way, upstream, target, stream, ROOM);
-    let by_machine = around(random, |room| held::image_run(image, 0, stream, room));
+    let by_machine = around(random, ROOM, |room| held::image_run(image, 0, stream, room));
     // Number, place, written and fences are the rule's; so is the buffer.
     assert_eq!(by_rule.answer[..4], by_machine.answer[..4]);
     assert_eq!(by_rule.out, by_machine.out);
@@ -227,7 +244,7 @@ fn every_pair(random: &mut Random) {
             for way in WAYS {
                 for length in [0, 1, 2, 7, 40] {
                     let stream = stream_for(random, &upstream, length);
-                    around(random, |room| {
+                    around(random, ROOM, |room| {
                         held::run(way, &upstream, &target, &stream, room)
                     });
                 }
@@ -311,7 +328,7 @@ fn text_at_every_byte(random: &mut Random) {
 }
 
 /// A generated image of some size.
-fn some_image(random: &mut Random) -> Vec<u8> {
+pub fn some_image(random: &mut Random) -> Vec<u8> {
     loop {
         let way = random.below(2) as u64;
         let (upstream, target) = match random.below(8) {
@@ -345,6 +362,9 @@ fn image_at_every_byte(random: &mut Random) {
                 held::image_read(&image, ROOM);
                 let start = random.below(4) as u64;
                 held::image_run(&image, start, b"lsLS0l", ROOM);
+                if random.below(16) == 0 {
+                    drawings::drawn(&image);
+                }
             }
         }
     }
@@ -369,12 +389,12 @@ fn list_at_every_byte(random: &mut Random) {
 
 fn random_models(random: &mut Random) {
     let (upstream, target) = (model_text(random), model_text(random));
-    around(random, |room| held::model(&upstream, room));
+    around(random, ROOM, |room| held::model(&upstream, room));
     held::compare(&upstream, &target);
     for way in WAYS {
         let length = random.below(60);
         let stream = stream_for(random, &upstream, length);
-        around(random, |room| {
+        around(random, ROOM, |room| {
             held::run(way, &upstream, &target, &stream, room)
         });
         machine(random, way, &upstream, &target, &stream);
@@ -389,13 +409,15 @@ fn long_streams(random: &mut Random) {
     };
     let stream = stream_for(random, &upstream, length);
     for way in WAYS {
-        around(random, |room| {
+        around(random, ROOM, |room| {
             held::run(way, &upstream, &target, &stream, room)
         });
         let generated = held::generate(way, &upstream, &target, ROOM);
         if done(&generated) {
             let image = written(&generated);
-            around(random, |room| held::image_run(image, 0, &stream, room));
+            around(random, ROOM, |room| {
+                held::image_run(image, 0, &stream, room)
+            });
         }
     }
 }
@@ -417,7 +439,7 @@ fn damaged_texts(random: &mut Random) {
         0 => repeating_text(random),
         _ => damaged(random, &sound),
     };
-    around(random, |room| held::model(&broken, room));
+    around(random, ROOM, |room| held::model(&broken, room));
     held::compare(&broken, &other);
     held::compare(&other, &broken);
     let way = random.below(3) as u64;
@@ -436,7 +458,8 @@ fn damaged_images(random: &mut Random) {
         if random.below(2) == 0 {
             broken = renewed(broken);
         }
-        around(random, |room| held::image_read(&broken, room));
+        around(random, ROOM, |room| held::image_read(&broken, room));
+        drawings::drawn(&broken);
         let (start, length) = (random.below(260) as u64, random.below(30));
         let stream = stream(random, MODEL_FENCES, length);
         held::image_run(&broken, start, &stream, ROOM);
@@ -449,7 +472,7 @@ fn damaged_streams(random: &mut Random) {
     let sound = stream_for(random, &upstream, length);
     let broken = damaged(random, &sound);
     for way in WAYS {
-        around(random, |room| {
+        around(random, ROOM, |room| {
             held::run(way, &upstream, &target, &broken, room)
         });
         let image = held::generate(way, &upstream, &target, ROOM);
@@ -478,6 +501,8 @@ fn noise_everywhere(random: &mut Random) {
     held::image_read(&a, room);
     held::image_run(&a, random.number(), &b, room);
     held::list(&a, room);
+    held::draw(&a, room);
+    held::undraw(&a, room);
     let (upstream, target) = (builtin_text(1), builtin_text(15));
     held::run(random.below(2) as u64, &upstream, &target, &c, room);
 }

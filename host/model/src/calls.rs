@@ -7,7 +7,7 @@ use crate::limits::STREAM_OPERATIONS;
 use crate::machine::Machine;
 use crate::rule::{Shim, Way};
 use crate::stream::{bytes, fences};
-use crate::{builtin as builtins, compare as relations, image, listing, text};
+use crate::{builtin as builtins, compare as relations, drawing, image, listing, text};
 
 type Outcome = Result<Answer, Refusal>;
 
@@ -130,4 +130,14 @@ pub fn list(input: &[u8], out: &mut [u8]) -> Answer {
         })
     };
     answer(stages())
+}
+
+/// An image's drawing.
+pub fn draw(image_bytes: &[u8], out: &mut [u8]) -> Answer {
+    answer(image::read(image_bytes).and_then(|machine| deliver(&drawing::write(&machine), out)))
+}
+
+/// A drawing's image.
+pub fn undraw(drawing_bytes: &[u8], out: &mut [u8]) -> Answer {
+    answer(drawing::read(drawing_bytes).and_then(|machine| deliver(&image::write(&machine), out)))
 }

@@ -7,7 +7,7 @@ use shim_model::model::Model;
 use shim_model::rule::{Shim, Way};
 use shim_model::situation::Situation;
 use shim_model::stream::{bytes, fences, operations, Operation};
-use shim_model::{builtin, calls, image, limits, placing, text};
+use shim_model::{builtin, calls, drawing, image, limits, placing, text};
 use std::io::{Read, Write};
 
 const USAGE: &str = "\
@@ -22,6 +22,8 @@ usage: shim-model COMMAND
   image WAY UP TARGET [raw]        the image in hexadecimal, or its bytes
   image-read < IMAGE               way, states, fences of both sides
   image-run START STREAM < IMAGE   output, bytes written, fences, end state
+  draw < IMAGE                     the image's drawing
+  undraw < DRAWING                 the drawing's image, its bytes
   fewest UP TARGET STREAM MOST     least fences over all placings, at most MOST in a gap
   list < INPUT                     what shimlist prints
 WAY is sparing, full or a number. UP, TARGET, FIRST and SECOND are each the
@@ -81,6 +83,8 @@ fn answer(words: &[&str]) -> Printed {
         ["image-run", start, stream] => {
             image_run(&input()?, number_of(start)?, &stream_of(stream)?)
         }
+        ["draw"] => Ok(drawing::write(&image::read(&input()?)?)),
+        ["undraw"] => Ok(image::write(&drawing::read(&input()?)?)),
         ["fewest", up, target, stream, most] => {
             fewest([up, target], stream, number_of(most)? as usize)
         }

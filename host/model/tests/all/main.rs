@@ -2,6 +2,7 @@
 
 mod common;
 mod demands;
+mod drawings;
 mod images;
 mod lists;
 mod machines;

@@ -65,3 +65,13 @@ fn images_in_hexadecimal() {
     assert_eq!(told.len(), 2 * 1_024 + 32);
     assert!(told.starts_with("0000010103010154534f00"));
 }
+
+/// An accepted drawing's image is no text; only refusals are shown here.
+#[test]
+fn drawings_read_standard_input() {
+    assert_eq!(printed(&["draw"], b"digraph"), "refused 10 at 0\n");
+    assert_eq!(printed(&["undraw"], b"digraph"), "refused 2 at 7\n");
+    // `full` is the second name, and then the way is missing.
+    let nameless = b"digraph shim {\nlabel=\"A full 0 0\";\n";
+    assert_eq!(printed(&["undraw"], nameless), "refused 2 at 29\n");
+}
