@@ -14,6 +14,7 @@ use Rattle.image.proofs.Unique.{rewrite-one}
 use Rattle.image_runs.specs.Run.{runOver}
 use Rattle.generation.specs.Generating.{ImageGiven}
 use Rattle.generation.proofs.Unique as generated
+use Rattle.drawing.specs.Calls.{drawn}
 use Rattle.listing.specs.Listed.{Listed}
 use Rattle.listing.proofs.Unique as listed
 use Rattle.host.specs.Border.{numberIn, Tells, TellsRelation}
@@ -39,6 +40,11 @@ pub image-run-one : (image : List ℕ) (start : ℕ) (stream : List ℕ) {out : 
     → Tells (Delivers (runOver image start stream) out) r answer after → Tells (Delivers (runOver image start stream) out) r′ answer′ after′
     → (r ≡ r′) × (answer ≡ answer′) × (after ≡ after′)
 image-run-one image start stream = same-delivered (runOver image start stream)
+
+pub draw-one : (image : List ℕ) {out : List ℕ} {r r′ : ℕ} {answer answer′ after after′ : List ℕ}
+    → Tells (Delivers (drawn image) out) r answer after → Tells (Delivers (drawn image) out) r′ answer′ after′
+    → (r ≡ r′) × (answer ≡ answer′) × (after ≡ after′)
+draw-one image = same-delivered (drawn image)
 
 pub generate-one : (way : ℕ) (upstream target : List ℕ) {out : List ℕ} {r r′ : ℕ} {answer answer′ after after′ : List ℕ}
     → Tells (Answers (ImageGiven way upstream target) out) r answer after
