@@ -1,14 +1,14 @@
 -- The parts of an edge, one behind another: each is told by one text at most, has a text, and is found as its first part and then the rest are.
 -- Assumes nothing.
 use Prim.Native.Nat.{ℕ, zero, suc, _+_, _-_, _*_, _≤_, _<_}
-use mathlib.Core.Path.{_≡_, refl, sym, ap, subst, _∙_}
+use mathlib.Core.Path.{_≡_, sym, ap, subst, _∙_}
 use mathlib.Core.Bool.{Bool, true, false, not, _&&_}
 use mathlib.Core.List.{List, [], _∷_, _++_}
 use native.Mathlib.Omega.{arith}
 use native.Mathlib.Nat.{add-zero}
 use native.Mathlib.Decide.{decLt}
 use borrow.Author.Tests.{ne-eqb, lt-ltb, le-ltb}
-use lib.Dec.{T, eqb, ltb}
+use lib.Dec.{T, ltb}
 use lib.ListN.{length, take, drop, getD}
 use lib.Seq.{getD-drop}
 use Rattle.ground.specs.Bytes.{bytes}
@@ -23,11 +23,14 @@ use Rattle.texts.specs.declared.Part.{Part}
 use Rattle.texts.specs.Pattern.{isWord, followAt}
 use Rattle.texts.specs.NumberPart.{isDigit, numberAt}
 use Rattle.texts.specs.Language.{Telling, Any, Some, Unique}
-use Rattle.texts.specs.Telling.{Then, Through, Either, Word, Numbered, wordTaken, partTaken, Taken, took, stopped, Finds, finds}
-use Rattle.texts.proofs.Telling.{unique-then, some-then, then-stops, then-goes, unique-through, some-through, through-took, through-stopped, unique-word, some-word, finds-word, unique-either, some-either, either-first, either-second}
-use Rattle.texts.proofs.NumberPart.{unique-numbered, some-numbered, finds-number, word-append, decimal-word, first-digit}
+use Rattle.texts.specs.Telling.{Then, Through, Word, Numbered, partTaken, Taken, took, stopped, Finds, finds}
+use Rattle.texts.proofs.Telling.{unique-then, some-then, then-stops, then-goes, unique-through, some-through, through-took}
+use Rattle.texts.proofs.Telling.{through-stopped, unique-word, some-word, unique-either, some-either, either-first, either-second}
+use Rattle.texts.proofs.NumberPart.{unique-numbered, some-numbered, word-append, decimal-word, first-digit}
 use Rattle.drawing_reader.specs.declared.edges.Shape.{Shape}
-use Rattle.drawing_reader.specs.inner.Edges.{middle, MarkPart, refusedWord, RefusedLabel, Refused, Marked, LedLabel, Led, EndOf, EdgeEnd, EdgePart, Shaped}
+use Rattle.drawing_reader.specs.inner.Edges.{middle, MarkPart, refusedWord, RefusedMark, RefusedLabel, Refused, MarkEnd, Marked}
+use Rattle.drawing_reader.specs.inner.Edges.{LedLabel, Led, EndOf, EdgeEnd, EdgePart, Shaped}
+use Rattle.drawing_reader.proofs.Words.{word-found, word-stuck, number-found, number-stuck}
 use Rattle.drawing_reader.proofs.Marks.{mark-small, unique-mark, some-mark}
 
 -- no operation's byte is `?`, so the label's middle is a word
@@ -49,20 +52,17 @@ middle-word letter =
 
 -- a word that was followed
 module _ (w : List ℕ) (word : T (isWord w)) {t : List ℕ} {at : ℕ} {r : Step} (is : r ≡ followAt w t at) where
-  word-is : {s : Step} → r ≡ s → Finds (Word w) t at (wordTaken s)
-  word-is e = subst (λ (s : Step). Finds (Word w) t at (wordTaken s)) (sym is ∙ e) (finds-word w t at word)
-
   pub word-stops : {B : Type 0} {p : ℕ} (M : Telling B) → Some (Any M) → r ≡ Step.Stuck p → Finds (Then (Word w) (λ _. M)) t at (stopped p)
-  word-stops M some e = then-stops (Word w) (λ _. M) t at (λ _. some) (word-is e)
+  word-stops M some e = then-stops (Word w) (λ _. M) t at (λ _. some) (word-stuck w t at word is e)
 
   pub word-goes : {B : Type 0} {p : ℕ} (M : Telling B) → r ≡ Step.Next p → {x : Taken B} → Finds M t p x → Finds (Then (Word w) (λ _. M)) t at x
-  word-goes M e h = then-goes (Word w) (λ _. M) t at (unique-word w) (word-is e) h
+  word-goes M e h = then-goes (Word w) (λ _. M) t at (unique-word w) (word-found w t at word is e) h
 
   pub last-stops : {p : ℕ} (v : ℕ) → r ≡ Step.Stuck p → Finds (Through (λ _. v) (Word w)) t at (stopped p)
-  last-stops v e = through-stopped (λ _. v) (Word w) t at (word-is e)
+  last-stops v e = through-stopped (λ _. v) (Word w) t at (word-stuck w t at word is e)
 
   pub last-goes : {p : ℕ} (v : ℕ) → r ≡ Step.Next p → Finds (Through (λ _. v) (Word w)) t at (took p v)
-  last-goes v e = through-took (λ _. v) (Word w) t at (word-is e)
+  last-goes v e = through-took (λ _. v) (Word w) t at (word-found w t at word is e)
 
 unique-last : (w : List ℕ) (v : ℕ) → Unique (Through (λ _. v) (Word w))
 unique-last w v = unique-through (λ _. v) (Word w) (unique-word w)
@@ -77,12 +77,14 @@ some-behind : {B : Type 0} (w : List ℕ) (M : Telling B) → Some (Any M) → S
 some-behind w M s = some-then (Word w) (λ _. M) (some-word w) (λ _. s)
 
 -- a refused operation
+some-refused-mark : Some (Any RefusedMark)
+some-refused-mark = some-last (bytes "!\"];\n") refusedWord
 
 unique-refused-label : (letter : ℕ) → Unique (RefusedLabel letter)
-unique-refused-label letter = unique-behind (middle letter) (Through (λ _. refusedWord) (Word (bytes "!\"];\n"))) (unique-last (bytes "!\"];\n") refusedWord)
+unique-refused-label letter = unique-behind (middle letter) RefusedMark (unique-last (bytes "!\"];\n") refusedWord)
 
 some-refused-label : (letter : ℕ) → Some (Any (RefusedLabel letter))
-some-refused-label letter = some-behind (middle letter) (Through (λ _. refusedWord) (Word (bytes "!\"];\n"))) (some-last (bytes "!\"];\n") refusedWord)
+some-refused-label letter = some-behind (middle letter) RefusedMark some-refused-mark
 
 unique-refused : (letter : ℕ) → Unique (Refused letter)
 unique-refused letter = unique-behind (bytes "refused ") (RefusedLabel letter) (unique-refused-label letter)
@@ -93,11 +95,11 @@ some-refused letter = some-behind (bytes "refused ") (RefusedLabel letter) (some
 module _ (letter : ℕ) {t : List ℕ} {at p : ℕ} {r : Step} where
   pub refused-label-stops : r ≡ followAt (middle letter) t at → r ≡ Step.Stuck p → Finds (RefusedLabel letter) t at (stopped p)
   refused-label-stops is =
-      word-stops (middle letter) (middle-word letter) is (Through (λ _. refusedWord) (Word (bytes "!\"];\n"))) (some-last (bytes "!\"];\n") refusedWord)
+      word-stops (middle letter) (middle-word letter) is RefusedMark some-refused-mark
 
   pub refused-label-goes : r ≡ followAt (middle letter) t at → r ≡ Step.Next p → {x : Taken ℕ}
-      → Finds (Through (λ _. refusedWord) (Word (bytes "!\"];\n"))) t p x → Finds (RefusedLabel letter) t at x
-  refused-label-goes is = word-goes (middle letter) (middle-word letter) is (Through (λ _. refusedWord) (Word (bytes "!\"];\n")))
+      → Finds RefusedMark t p x → Finds (RefusedLabel letter) t at x
+  refused-label-goes is = word-goes (middle letter) (middle-word letter) is RefusedMark
 
   pub refused-stops : r ≡ followAt (bytes "refused ") t at → r ≡ Step.Stuck p → Finds (Refused letter) t at (stopped p)
   refused-stops is = word-stops (bytes "refused ") tt is (RefusedLabel letter) (some-refused-label letter)
@@ -107,16 +109,15 @@ module _ (letter : ℕ) {t : List ℕ} {at p : ℕ} {r : Step} where
   refused-goes is = word-goes (bytes "refused ") tt is (RefusedLabel letter)
 
 -- one that leads to a state
-End : ℕ → ℕ → Telling ℕ
-End next fence = Through (λ _. 256 * fence + next) (Word (bytes "\"];\n"))
+some-mark-end : (next fence : ℕ) → Some (Any (MarkEnd next fence))
+some-mark-end next fence = some-last (bytes "\"];\n") (256 * fence + next)
 
 unique-marked : (marks next : ℕ) → marks ≤ 16 → Unique (Marked marks next)
-unfolding End
-unique-marked marks next few = unique-then (MarkPart marks) (End next) (unique-mark marks few) (λ fence. unique-last (bytes "\"];\n") (256 * fence + next))
+unique-marked marks next few =
+    unique-then (MarkPart marks) (MarkEnd next) (unique-mark marks few) (λ fence. unique-last (bytes "\"];\n") (256 * fence + next))
 
 some-marked : (marks next : ℕ) → Some (Any (Marked marks next))
-unfolding End
-some-marked marks next = some-then (MarkPart marks) (End next) (some-mark marks) (λ fence. some-last (bytes "\"];\n") (256 * fence + next))
+some-marked marks next = some-then (MarkPart marks) (MarkEnd next) (some-mark marks) (some-mark-end next)
 
 unique-led-label : (marks letter next : ℕ) → marks ≤ 16 → Unique (LedLabel marks letter next)
 unique-led-label marks letter next few = unique-behind (middle letter) (Marked marks next) (unique-marked marks next few)
@@ -136,13 +137,11 @@ module _ (marks next : ℕ) {t : List ℕ} {at : ℕ} {r : Part} (found : Finds 
       small (finds f ln m) = mark-small few m
 
   pub marked-stops : {p : ℕ} → r ≡ Part.Stuck p → Finds (Marked marks next) t at (stopped p)
-  unfolding End
-  marked-stops e = then-stops (MarkPart marks) (End next) t at (λ fence. some-last (bytes "\"];\n") (256 * fence + next)) (mark-is e)
+  marked-stops e = then-stops (MarkPart marks) (MarkEnd next) t at (some-mark-end next) (mark-is e)
 
   pub marked-goes : marks ≤ 16 → {p : ℕ} (fence : ℕ) → r ≡ Part.Next p fence → {x : Taken ℕ}
-      → Finds (Through (λ _. 256 * fence + next) (Word (bytes "\"];\n"))) t p x → Finds (Marked marks next) t at x
-  unfolding End
-  marked-goes few fence e h = then-goes (MarkPart marks) (End next) t at (unique-mark marks few) (mark-is e) h
+      → Finds (MarkEnd next fence) t p x → Finds (Marked marks next) t at x
+  marked-goes few fence e h = then-goes (MarkPart marks) (MarkEnd next) t at (unique-mark marks few) (mark-is e) h
 
 module _ (marks letter next : ℕ) {t : List ℕ} {at p : ℕ} {r : Step} (is : r ≡ followAt (middle letter) t at) where
   pub led-label-stops : r ≡ Step.Stuck p → Finds (LedLabel marks letter next) t at (stopped p)
@@ -157,26 +156,26 @@ blank d = d
 
 module _ (states marks letter : ℕ) (some : 1 ≤ states) where
   unique-led : marks ≤ 16 → Unique (Led states marks letter)
-  unique-led few = unique-then (Numbered states 32) (LedLabel marks letter) (unique-numbered states 32 blank) (λ next. unique-led-label marks letter next few)
+  unique-led few =
+      unique-then (Numbered states 32) (LedLabel marks letter) (unique-numbered states 32 blank) (λ next. unique-led-label marks letter next few)
 
   some-led : Some (Any (Led states marks letter))
   some-led = some-then (Numbered states 32) (LedLabel marks letter) (some-numbered states 32 some) (some-led-label marks letter)
 
   module _ (t : List ℕ) (at : ℕ) {r : Part} (is : r ≡ numberAt states 32 t at) where
-    number-is : {s : Part} → r ≡ s → Finds (Numbered states 32) t at (partTaken s)
-    number-is e = subst (λ (s : Part). Finds (Numbered states 32) t at (partTaken s)) (sym is ∙ e) (finds-number states 32 some t at)
-
     pub next-small : {p next : ℕ} → r ≡ Part.Next p next → next < states
-    next-small e = small (number-is e)
+    next-small e = small (number-found states 32 some t at is e)
       where
         small : {p next : ℕ} → Finds (Numbered states 32) t at (took p next) → next < states
         small (finds f ln m) = m .0
 
     pub led-stops : {p : ℕ} → r ≡ Part.Stuck p → Finds (Led states marks letter) t at (stopped p)
-    led-stops e = then-stops (Numbered states 32) (LedLabel marks letter) t at (some-led-label marks letter) (number-is e)
+    led-stops e = then-stops (Numbered states 32) (LedLabel marks letter) t at (some-led-label marks letter) (number-stuck states 32 some t at is e)
 
-    pub led-goes : {p : ℕ} (next : ℕ) → r ≡ Part.Next p next → {x : Taken ℕ} → Finds (LedLabel marks letter next) t p x → Finds (Led states marks letter) t at x
-    led-goes next e h = then-goes (Numbered states 32) (LedLabel marks letter) t at (unique-numbered states 32 blank) (number-is e) h
+    pub led-goes : {p : ℕ} (next : ℕ) → r ≡ Part.Next p next → {x : Taken ℕ} → Finds (LedLabel marks letter next) t p x
+        → Finds (Led states marks letter) t at x
+    led-goes next e h = then-goes (Numbered states 32) (LedLabel marks letter) t at (unique-numbered states 32 blank)
+        (number-found states 32 some t at is e) h
 
 -- the first byte tells where the edge of an access leads
 front-byte : (n : ℕ) (x w : List ℕ) (b : ℕ) → take n x ≡ b ∷ w → getD x 0 0 ≡ b
@@ -222,7 +221,8 @@ module _ (sh : Shape) (shaped : Shaped sh) where
   unique-end : (q : Bool) (letter : ℕ) → Unique (EndOf q sh letter)
   unique-end true letter =
       unique-either (Refused letter) (Led (sh .states) (sh .targets) letter) IsR Digits no-r no-digit not-both (refused-begins letter)
-      (led-begins (sh .states) (sh .targets) letter) (unique-refused letter) (unique-led (sh .states) (sh .targets) letter (shaped .some) (shaped .targets))
+      (led-begins (sh .states) (sh .targets) letter) (unique-refused letter)
+      (unique-led (sh .states) (sh .targets) letter (shaped .some) (shaped .targets))
   unique-end false letter = unique-led (sh .states) 0 letter (shaped .some) (omega arith)
 
   some-end : (q : Bool) (letter : ℕ) → Some (Any (EndOf q sh letter))
@@ -257,7 +257,8 @@ module _ (sh : Shape) (shaped : Shaped sh) where
       unfolding IsR
       end-led ne h =
           end-is true (lt-ltb letter accessLetters l)
-          (either-second (Refused letter) (Led (sh .states) (sh .targets) letter) t at IsR no-r (refused-begins letter) (λ e. ne (sym (first-at t at b is) ∙ e)) h)
+          (either-second (Refused letter) (Led (sh .states) (sh .targets) letter) t at IsR no-r (refused-begins letter)
+          (λ e. ne (sym (first-at t at b is) ∙ e)) h)
 
   module _ (state letter : ℕ) {t : List ℕ} {at : ℕ} {r : Step} (is : r ≡ followAt (decimal state ++ bytes " -> ") t at) {p : ℕ} where
     pub edge-stops : r ≡ Step.Stuck p → Finds (EdgePart sh state letter) t at (stopped p)

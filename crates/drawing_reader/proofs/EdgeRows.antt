@@ -1,7 +1,7 @@
 -- Edges read into rows, one behind another: what is found so far is what stands in the rows so far, since a word that is put touches no other.
 -- Assumes nothing.
-use Prim.Native.Nat.{ℕ, zero, suc, _+_, _-_, _*_, _/_, _%_, _≤_, _<_}
-use mathlib.Core.Path.{_≡_, refl, sym, ap, ap₂, subst, _∙_}
+use Prim.Native.Nat.{ℕ, zero, suc, _+_, _-_, _*_, _≤_, _<_}
+use mathlib.Core.Path.{_≡_, refl, sym, ap₂, subst, _∙_}
 use mathlib.Core.List.{List, [], _∷_, _++_}
 use native.Mathlib.Omega.{arith}
 use native.Mathlib.Numerals.{add-one}
@@ -12,11 +12,12 @@ use Rattle.operations.specs.Alphabet.{stride}
 use Rattle.texts.specs.declared.Step.{Step}
 use Rattle.texts.specs.declared.Part.{Part}
 use Rattle.texts.specs.Language.{Any, Some, Unique}
-use Rattle.texts.specs.Telling.{Items, partTaken, took, stopped, Finds}
+use Rattle.texts.specs.Telling.{Items, partTaken, took, Finds}
 use Rattle.texts.proofs.Telling.{unique-items, some-items, items-none, items-more, items-stop}
 use Rattle.image.specs.Image.{word}
 use Rattle.drawing_reader.specs.declared.edges.Shape.{Shape}
-use Rattle.drawing_reader.specs.inner.Edges.{EdgePart, RowPart, RowsPart, inOrder, rowTold, rowsTold, rowTaken, rowsTaken, Shaped, Within, ReadsRow, ReadsRows}
+use Rattle.drawing_reader.specs.inner.Edges.{EdgePart, RowPart, RowsPart, inOrder, rowTold}
+use Rattle.drawing_reader.specs.inner.Edges.{rowsTold, rowTaken, Shaped, Within, ReadsRow, ReadsRows}
 use Rattle.drawing_reader.proofs.EdgeParts.{unique-edge, some-edge}
 use Rattle.drawing_reader.proofs.EdgeTexts.{edge-small}
 
@@ -58,7 +59,9 @@ pub row-none : (sh : Shape) (state : ℕ) (t : List ℕ) (start : ℕ) (rows : L
 row-none sh state t start rows = record {
   few = omega arith;
   size = refl;
-  found = subst (λ (v : List ℕ). Finds (Items (EdgePart sh state) 0) t start (took start v)) (no-order (word rows state)) (items-none (EdgePart sh state) t start);
+  found =
+      subst (λ (v : List ℕ). Finds (Items (EdgePart sh state) 0) t start (took start v)) (no-order (word rows state))
+      (items-none (EdgePart sh state) t start);
   rest = λ i out. refl;
 }
 
@@ -82,7 +85,8 @@ module _ (sh : Shape) (shaped : Shaped sh) (state : ℕ) (t : List ℕ) (start :
     row-stop e = record {
       size = so-far .size;
       found =
-          items-stop (EdgePart sh state) t start (unique-edge sh shaped state) (some-edge sh shaped state) letter (sh .letters) l (so-far .found) (edge-is e);
+          items-stop (EdgePart sh state) t start (unique-edge sh shaped state) (some-edge sh shaped state) letter (sh .letters) l (so-far .found)
+          (edge-is e);
       rest = λ i out. so-far .rest i (λ a b. out a (omega arith));
     }
 
@@ -172,7 +176,8 @@ module _ (sh : Shape) (shaped : Shaped sh) (t : List ℕ) (start : ℕ) (rows₀
       where
         same : (s : ℕ) → s < state → rowTold (sh .letters) rows s ≡ rowTold (sh .letters) rows′ s
         same s h =
-            in-order-same (word rows s) (word rows′ s) (sh .letters) (λ a k. sym (row .rest (s * stride + a) (λ low high. omega (arith, shaped .letters))))
+            in-order-same (word rows s) (word rows′ s) (sh .letters)
+            (λ a k. sym (row .rest (s * stride + a) (λ low high. omega (arith, shaped .letters))))
 
         told : rowsTold (sh .letters) rows state ++ (rowTold (sh .letters) rows′ state ∷ []) ≡ rowsTold (sh .letters) rows′ (suc state)
         told =

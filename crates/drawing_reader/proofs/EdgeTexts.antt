@@ -1,30 +1,25 @@
 -- The texts of edges are the lines of a drawing: an edge tells a word of an image, and its text is that word's line; rows of them are lines in
 -- turn. Assumes nothing.
-use Prim.Native.Nat.{ℕ, zero, suc, _+_, _*_, _/_, _%_, _≤_, _<_}
+use Prim.Native.Nat.{ℕ, _+_, _*_, _/_, _%_, _≤_, _<_}
 use mathlib.Core.Path.{_≡_, refl, sym, ap, ap₂, subst, _∙_}
 use mathlib.Core.Bool.{Bool, true, false, cond}
 use mathlib.Core.Logic.{_⊎_, inl, inr}
 use mathlib.Core.List.{List, [], _∷_, _++_, append-assoc}
 use native.Mathlib.Omega.{arith}
-use native.Mathlib.Decide.{ℕ-discrete}
 use borrow.Author.Tests.{ne-eqb}
 use lib.Dec.{eqb, ltb}
-use lib.ListN.{length, take, drop, getD, length-append, take-append-drop, List·getD-append}
-use lib.Seq.{getD-at}
+use lib.ListN.{drop, take-append-drop}
 use Rattle.ground.specs.Bytes.{bytes}
 use Rattle.operations.specs.Operation.{byteOf}
 use Rattle.operations.specs.Alphabet.{accessLetters, operationOf, fenceMark}
 use Rattle.printing.specs.Decimal.{decimal}
-use Rattle.printing.specs.Turns.{inTurn}
-use Rattle.printing.proofs.Decimals.{one-digit}
-use Rattle.printing.proofs.Turns.{inTurn-same}
 use Rattle.texts.specs.Language.{Telling}
-use Rattle.texts.specs.Telling.{Then, Word, Numbered, Items, took, Finds, finds}
-use Rattle.texts.proofs.Language.{seq-join, seq-apart}
-use Rattle.image.specs.Image.{word}
-use Rattle.drawing.specs.Drawing.{edgeLine, stateEdges}
+use Rattle.texts.specs.Telling.{Then, Word, Numbered, took, Finds, finds}
+use Rattle.texts.proofs.Language.{seq-join}
+use Rattle.drawing.specs.Drawing.{edgeLine}
 use Rattle.drawing_reader.specs.declared.edges.Shape.{Shape}
-use Rattle.drawing_reader.specs.inner.Edges.{middle, MarkPart, refusedWord, RefusedLabel, Refused, Marked, LedLabel, Led, EndOf, EdgeEnd, EdgePart, RowPart, RowsPart, WordOf, EdgeWord, inOrder, rowTold, rowsTold, Shaped}
+use Rattle.drawing_reader.specs.inner.Edges.{middle, MarkPart, refusedWord, RefusedMark, RefusedLabel, Refused, MarkEnd, Marked, LedLabel}
+use Rattle.drawing_reader.specs.inner.Edges.{Led, EndOf, EdgeEnd, EdgePart, WordOf, EdgeWord, Shaped}
 
 -- a word and what stands behind it
 word-apart : {B : Type 0} (w : List ℕ) (M : Telling B) (b : B) (t : List ℕ) → Then (Word w) (λ _. M) b t
@@ -58,7 +53,7 @@ refused-written : (letter : ℕ) → Refused letter refusedWord (behind letter 2
 unfolding behind
 refused-written letter =
     word-join (bytes "refused ") (RefusedLabel letter) refusedWord (middle letter ++ bytes "!\"];\n")
-    (tt, seq-join (Word (middle letter) tt) (λ t. Unit × (refusedWord ≡ refusedWord) × (t ≡ bytes "!\"];\n")) (middle letter) (bytes "!\"];\n") refl (tt, refl, refl))
+    (tt, seq-join (Word (middle letter) tt) (RefusedMark refusedWord) (middle letter) (bytes "!\"];\n") refl (tt, refl, refl))
 
 -- of one that leads to a state
 module _ (marks letter : ℕ) where
@@ -112,7 +107,9 @@ module _ (marks letter : ℕ) where
         }
 
     led-written : (w : ℕ) → (w / 256 < marks) ⊎ (w / 256 ≡ 255) → w % 256 < states → Led states marks letter w (behind letter (w / 256) (w % 256))
-    led-written w v l = subst (Led states marks letter w) (led-line fence next few v) (next, seq-join (Numbered states 32 next) (LedLabel marks letter next w) (decimal next ++ (32 ∷ [])) label (l, refl) labelled)
+    led-written w v l =
+        subst (Led states marks letter w) (led-line fence next few v)
+        (next, seq-join (Numbered states 32 next) (LedLabel marks letter next w) (decimal next ++ (32 ∷ [])) label (l, refl) labelled)
       where
         fence : ℕ
         fence = w / 256
@@ -128,9 +125,11 @@ module _ (marks letter : ℕ) where
 
         labelled : LedLabel marks letter next w label
         labelled =
-            word-join (middle letter) (Marked marks next) w ((fenceMark fence ∷ []) ++ bytes "\"];\n")
-            (fence, seq-join (MarkPart marks fence) (λ t. Unit × (256 * fence + next ≡ w) × (t ≡ bytes "\"];\n")) (fenceMark fence ∷ []) (bytes "\"];\n") (v, refl)
-            (tt, is, refl))
+            word-join (middle letter) (Marked marks next) w ((fenceMark fence ∷ []) ++ bytes "\"];\n") (
+              fence,
+              seq-join (MarkPart marks fence) (MarkEnd next fence w) (fenceMark fence ∷ []) (bytes "\"];\n") (v, refl)
+                  (tt, is, refl),
+            )
 
 -- an edge
 module _ (sh : Shape) (shaped : Shaped sh) where
@@ -173,7 +172,8 @@ module _ (sh : Shape) (shaped : Shaped sh) where
   pub edge-written : (state letter w : ℕ) → EdgeWord sh letter w → EdgePart sh state letter w (edgeLine state letter w)
   edge-written state letter w good =
       subst (EdgePart sh state letter w) (line-is state letter w)
-      (word-join (decimal state ++ bytes " -> ") (EdgeEnd sh letter) w (behind letter (w / 256) (w % 256)) (end-written (ltb letter accessLetters) letter w good))
+      (word-join (decimal state ++ bytes " -> ") (EdgeEnd sh letter) w (behind letter (w / 256) (w % 256))
+      (end-written (ltb letter accessLetters) letter w good))
 
   word-small : (q : Bool) (w : ℕ) → WordOf q sh w → w < 65536
   word-small true w (inl (high, low)) = omega arith

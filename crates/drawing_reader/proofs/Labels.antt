@@ -11,7 +11,7 @@ use lib.ListN.{take, drop, getD, take-append-drop}
 use lib.Seq.{getD-drop}
 use Rattle.ground.specs.Bytes.{bytes}
 use Rattle.texts.specs.Language.{Telling, Any, Seq, Some, Unique}
-use Rattle.texts.specs.Telling.{Then, Through, Word, Named, Numbered, Taken, Finds}
+use Rattle.texts.specs.Telling.{Then, Through, Word, Named, Numbered, Taken, took, Finds, finds}
 use Rattle.texts.proofs.Language.{seq-join}
 use Rattle.texts.proofs.Telling.{unique-then, some-then, unique-through, some-through, unique-either, some-either, unique-word, some-word}
 use Rattle.texts.proofs.Telling.{unique-named, some-named, either-first, either-second}
@@ -200,6 +200,9 @@ module _ (upstream target : List ℕ) (way ups targets : ℕ) where
       (joined (Numbered 17 32) (FromTargets upstream target way) ups (decimal ups) (bytes " ") (targetsText targets) (omega (arith, f .ups), refl)
       (joined (Numbered 17 34) (LabelEnd upstream target way ups) targets (decimal targets) (bytes "\"") (bytes ";\n")
       (omega (arith, f .targets), refl) (tt, refl, refl))))))
+
+pub told-formed : {t : List ℕ} {at p : ℕ} {l : Label} → Finds LabelPart t at (took p l) → LabelFormed l
+told-formed (finds {a = l} e ln x) = label-text l _ x .0
 
 pub text-label : (l : Label) → LabelFormed l → LabelPart l (labelText l)
 text-label l = tells (l .upstream) (l .target) (l .way) (l .ups) (l .targets)

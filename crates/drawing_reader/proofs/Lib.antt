@@ -7,3 +7,6 @@ pub mod Marks
 pub mod EdgeParts
 pub mod EdgeTexts
 pub mod EdgeRows
+pub mod EdgeLines
+pub mod Whole
+pub mod Theorems

@@ -6,7 +6,8 @@ ghost use lib.ListN.{length};
 ghost use Rattle.operations.specs.Alphabet.{stride};
 ghost use Rattle.texts.specs.Pattern.{isWord, followAt};
 ghost use Rattle.texts.specs.Telling.{Through, Word, Finds, partTaken};
-ghost use Rattle.drawing_reader.specs.inner.Edges.{fenceNumber, middle, MarkPart, RefusedLabel, Refused, Marked, LedLabel, Led, EdgeEnd, EdgePart, Shaped, ReadsRow, ReadsRows};
+ghost use Rattle.drawing_reader.specs.inner.Edges.{fenceNumber, middle, MarkPart, RefusedLabel, Refused, Marked};
+ghost use Rattle.drawing_reader.specs.inner.Edges.{LedLabel, Led, EdgeEnd, EdgePart, Shaped, ReadsRow, ReadsRows};
 use crate::decimal;
 use operations::Byte;
 use operations::Operation;
@@ -36,7 +37,7 @@ fn fence_number(b: u8) -> usize
     }
 }
 
-// The mark of one of the first so many fences, or of none.
+// The mark of one of the first so many fences, or of none, which is told as 255.
 fn mark(text: &[u8], at: usize, marks: usize) -> Part
     requires { ⌜ marks ≤ 16 ⌝ }
     ensures { λ r. ⌜ Finds (MarkPart marks) (now (text .entry)) at (partTaken r) ⌝ }

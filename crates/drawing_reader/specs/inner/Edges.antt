@@ -6,17 +6,19 @@ use mathlib.Core.Bool.{Bool, true, false}
 use mathlib.Core.Logic.{_⊎_}
 use mathlib.Core.List.{List, [], _∷_, _++_}
 use lib.Dec.{ltb}
-use lib.ListN.{length}
+use lib.ListN.{length, getD}
 use Rattle.ground.specs.Bytes.{at, bytes}
 use Rattle.operations.specs.declared.Operation.{Operation}
 use Rattle.operations.specs.declared.Byte.{Byte}
 use Rattle.operations.specs.Operation.{byteIs, byteOf}
 use Rattle.operations.specs.Alphabet.{accessLetters, stride, operationOf, fenceMark}
 use Rattle.printing.specs.Decimal.{decimal}
+use Rattle.printing.specs.Turns.{inTurn}
 use Rattle.texts.specs.declared.Step.{Step}
 use Rattle.texts.specs.Language.{Telling}
 use Rattle.texts.specs.Telling.{Then, Through, Items, Either, Word, Numbered, Taken, took, stopped, Finds}
 use Rattle.image.specs.Image.{word}
+use Rattle.drawing.specs.Drawing.{edgeLine}
 use Rattle.drawing_reader.specs.declared.edges.Shape.{Shape}
 
 -- the fence that a byte names; 16, which no fence has, where it names none
@@ -40,15 +42,21 @@ MarkPart marks fence t = ((fence < marks) ⊎ (fence ≡ 255)) × (t ≡ fenceMa
 abbrev pub refusedWord : ℕ
 refusedWord = 65024
 
+abbrev pub RefusedMark : Telling ℕ
+RefusedMark = Through (λ _. refusedWord) (Word (bytes "!\"];\n"))
+
 abbrev pub RefusedLabel : ℕ → Telling ℕ
-RefusedLabel letter = Then (Word (middle letter)) (λ _. Through (λ _. refusedWord) (Word (bytes "!\"];\n")))
+RefusedLabel letter = Then (Word (middle letter)) (λ _. RefusedMark)
 
 abbrev pub Refused : ℕ → Telling ℕ
 Refused letter = Then (Word (bytes "refused ")) (λ _. RefusedLabel letter)
 
 -- one that leads to a state has the mark of one of so many fences, or of none
+abbrev pub MarkEnd : ℕ → ℕ → Telling ℕ
+MarkEnd next fence = Through (λ _. 256 * fence + next) (Word (bytes "\"];\n"))
+
 abbrev pub Marked : ℕ → ℕ → Telling ℕ
-Marked marks next = Then (MarkPart marks) (λ fence. Through (λ _. 256 * fence + next) (Word (bytes "\"];\n")))
+Marked marks next = Then (MarkPart marks) (MarkEnd next)
 
 abbrev pub LedLabel : ℕ → ℕ → ℕ → Telling ℕ
 LedLabel marks letter next = Then (Word (middle letter)) (λ _. Marked marks next)
@@ -92,6 +100,13 @@ rowTold letters rows state = inOrder (word rows state) letters
 
 abbrev pub rowsTold : ℕ → List ℕ → ℕ → List (List ℕ)
 rowsTold letters rows states = inOrder (rowTold letters rows) states
+
+-- rows of words that the edges of a machine may tell, and their text: line by line
+pub record RowsAre (sh : Shape) (values : List (List ℕ)) (t : List ℕ) : Type 0 where
+  pub states : length values ≡ sh .states
+  pub letters : (s : ℕ) → s < sh .states → length (getD values s []) ≡ sh .letters
+  pub words : (s a : ℕ) → s < sh .states → a < sh .letters → EdgeWord sh a (at (getD values s []) a)
+  pub text : t ≡ inTurn (λ (s : ℕ). inTurn (λ (a : ℕ). edgeLine s a (at (getD values s []) a)) (sh .letters)) (sh .states)
 
 -- what a step over the edges of a state has taken, and what one over the edges of so many states has, by the rows after it
 abbrev pub rowTaken : ℕ → List ℕ → ℕ → Step → Taken (List ℕ)

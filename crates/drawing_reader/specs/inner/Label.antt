@@ -1,5 +1,6 @@
 -- The first two lines of a drawing, up to its label, as a part of its text.
 use Prim.Native.Nat.{ℕ, _-_, _≤_}
+use mathlib.Core.Path.{_≡_}
 use mathlib.Core.List.{List, _++_}
 use lib.ListN.{length, take, drop, replicate}
 use Rattle.ground.specs.Bytes.{bytes}
@@ -90,6 +91,18 @@ takenBy l (Step.Stuck p) = stopped p
 
 abbrev pub labelTaken : LabelRead → Taken Label
 labelTaken r = takenBy (labelOf r) (r .step)
+
+-- a field holds a name and zeros behind it
+abbrev pub Fielded : List ℕ → Type 0
+Fielded x = field (unfilled x) ≡ x
+
+-- what is held of a label fits a machine's header
+pub record Told (r : LabelRead) : Type 0 where
+  pub way : r .way ≤ 1
+  pub ups : r .ups ≤ 16
+  pub targets : r .targets ≤ 16
+  pub upstream : Fielded (r .upstream)
+  pub target : Fielded (r .target)
 
 -- the labels that a drawing has, and the two lines that tell one
 pub record LabelFormed (l : Label) : Type 0 where

@@ -6,18 +6,16 @@ use mathlib.Core.List.{List, []}
 use lib.ListN.{length, getD}
 use Rattle.ground.specs.Bytes.{at, bytes}
 use Rattle.operations.specs.Alphabet.{lettersWith, stride}
-use Rattle.texts.specs.Language.{Telling, Longest}
-use Rattle.texts.specs.Telling.{Then, Through, After, Word}
+use Rattle.texts.specs.declared.Step.{Step}
+use Rattle.texts.specs.Language.{Telling}
+use Rattle.texts.specs.Telling.{Then, Through, After, Word, Taken, took, stopped, Finds}
 use Rattle.printing.specs.Name.{unfilled}
 use Rattle.image.specs.declared.machine.Header.{Header}
-use Rattle.image.specs.Image.{listed, Canonical}
-use Rattle.drawing.specs.Drawing.{drawingOf}
-use Rattle.drawing_reader.specs.declared.DrawingRead.{DrawingRead}
+use Rattle.image.specs.Image.{listed}
 use Rattle.drawing_reader.specs.declared.edges.Shape.{Shape}
-use Rattle.drawing_reader.specs.Undrawing.{Drawing}
-use Rattle.drawing_reader.specs.inner.Label.{Label, LabelPart, field}
+use Rattle.drawing_reader.specs.inner.Label.{Label, LabelPart, field, labelFor}
 use Rattle.drawing_reader.specs.inner.Nodes.{NodesPart}
-use Rattle.drawing_reader.specs.inner.Edges.{RowsPart, rowsTold}
+use Rattle.drawing_reader.specs.inner.Edges.{RowsPart, rowsTold, Within}
 
 -- what a drawing tells: its label, how many states there are, and the words of each
 pub record Drawn : Type 0 where
@@ -56,13 +54,16 @@ unfoldable pub rowsFor : ℕ → List (List ℕ) → List ℕ
 rowsFor n words = listed (n * stride) (λ (j : ℕ). at (getD words (j / stride) []) (j % stride))
 
 -- what a machine tells when it is drawn
-abbrev pub labelFor : Header → Label
-labelFor h = record { upstream = unfilled (h .upstream); target = unfilled (h .target); way = h .way; ups = h .ups; targets = h .targets }
-
 abbrev pub drawnFor : Header → List ℕ → Drawn
 drawnFor h rows = record { label = labelFor h; states = h .states; words = rowsTold (lettersWith (h .ups)) rows (h .states) }
 
--- what reading a text promises: the header and the rows of the machine that it draws, or where it departs from every drawing
-pub data ReadsDrawing (t rows : List ℕ) : DrawingRead → Type 0 where
-  read : {h : Header} → Canonical h rows → t ≡ drawingOf h rows → ReadsDrawing t rows (DrawingRead.Read h)
-  stuck : {k : ℕ} → (Drawing t → ⊥) → Longest Drawing t k → ReadsDrawing t rows (DrawingRead.Stuck k)
+-- what a step over a drawing has taken, by the header and the rows after it
+abbrev pub drawnTaken : Header → List ℕ → Step → Taken Drawn
+drawnTaken h rows (Step.Next p) = took p (drawnFor h rows)
+drawnTaken h rows (Step.Stuck p) = stopped p
+
+-- a part of a drawing read into rows: only the words of states and letters that the machine has change
+pub record ReadsDrawn (L : Telling Drawn) (t : List ℕ) (start : ℕ) (rows : List ℕ) (h : Header) (r : Step) (rows′ : List ℕ) : Type 0 where
+  pub size : length rows′ ≡ length rows
+  pub found : Finds L t start (drawnTaken h rows′ r)
+  pub rest : (i : ℕ) → (Within (lettersWith (h .ups)) (h .states) i → ⊥) → at rows′ i ≡ at rows i

@@ -34,7 +34,8 @@ returns c =
     let inside = row .before .before in
     let loop = inside .before in
     let inv = loop .loop .inv in
-    rows-stop _ (loop .before .before .before .before .pre .0) _ _ _ _ _ _ (inv .1) (omega (arith, inv .0, inside .loop-test .taken)) _ _ (row .edge-row .ensures)
+    rows-stop _ (loop .before .before .before .before .pre .0) _ _ _ _ _ _ (inv .1)
+    (omega (arith, inv .0, inside .loop-test .taken)) _ _ (row .edge-row .ensures)
     (c .before .place .given .1)
 
 enum-known-past : tie.Need-enum-known-past Inv-loop μ-loop
@@ -51,9 +52,12 @@ loop-again c =
     let row = c .before .before .before .before .before in
     let inside = row .before .before in
     let loop = inside .before in
-    let inv = loop .loop .inv in
-    (inv .0, rows-more _ (loop .before .before .before .before .pre .0) _ _ _ _ _ _ (inv .1) (omega (arith, inv .0, inside .loop-test .taken)) _ _ (row .edge-row .ensures)
-    (c .before .past .given .1))
+    let inv = loop .loop .inv in (
+      inv .0,
+      rows-more _ (loop .before .before .before .before .pre .0) _ _ _ _ _ _ (inv .1)
+          (omega (arith, inv .0, inside .loop-test .taken)) _ _ (row .edge-row .ensures)
+          (c .before .past .given .1),
+    )
 
 same-length-2 : tie.Need-same-length-2 Inv-loop μ-loop
 same-length-2 c = search needs

@@ -1,4 +1,5 @@
 -- `marked` meets its contract: the mark decides, and then the rest. Assumes nothing.
+use Prim.Native.Nat.{_≤_}
 use native.Mathlib.Omega.{arith}
 use Rattle.drawing_reader.proofs.EdgeParts.{fence-small, marked-stops, marked-goes}
 use borrow.Author.Needs.{needs}
@@ -17,11 +18,15 @@ enum-known-past c = search needs
 slice-aggregate-value-behind : tie.Need-slice-aggregate-value-behind
 slice-aggregate-value-behind c = search needs
 
+-- the fence byte that was read is a byte
+small : (c : tie.After-value-behind-arg) → c .before .before .past .given .0 .1 .0 ≤ 255
+small c = fence-small _ 0 (c .before .before .before .before .mark .ensures) (omega arith) (c .before .before .past .given .1)
+
 mul-value-behind : tie.Need-mul-value-behind
-mul-value-behind c = omega (arith, fence-small _ 0 (c .before .before .before .before .mark .ensures) (omega arith) (c .before .before .past .given .1))
+mul-value-behind c = omega (arith, small c)
 
 add-value-behind : tie.Need-add-value-behind
-add-value-behind c = omega (arith, fence-small _ 0 (c .before .before .before .before .mark .ensures) (omega arith) (c .before .before .past .given .1))
+add-value-behind c = omega (arith, small c)
 
 value-behind-requires : tie.Need-value-behind-requires
 value-behind-requires c κs = search needs

@@ -14,7 +14,9 @@ enum-known-past : tie.Need-enum-known-past
 enum-known-past c = search needs
 
 returns : tie.Need-returns
-returns c = last-stops _ (c .before .before .before .before .before .before .pre) (c .before .before .before .follow .ensures) _ (c .before .place .given .1)
+returns c =
+    let word = c .before .before .before in
+    last-stops _ (word .before .before .before .pre) (word .follow .ensures) _ (c .before .place .given .1)
 
 returns-2 : tie.Need-returns-2
 returns-2 c = search (last-goes, needs)

@@ -1,15 +1,17 @@
 -- `label` meets its contract: a name is what stands in its field before the zeros. Assumes nothing.
-use Prim.Native.Nat.{ℕ}
-use mathlib.Core.Path.{_≡_, sym, ap, ap₂, subst, _∙_}
+use Prim.Native.Nat.{ℕ, zero-le}
+use mathlib.Core.Path.{_≡_, refl, sym, ap, ap₂, subst, _∙_}
 use mathlib.Core.List.{List}
 use borrow.Author.Needs.{needs}
 use denote.Ref.{now}
+use lib.ListN.{replicate}
 use Rattle.texts.specs.Telling.{took, Finds}
 use Rattle.printing.specs.Name.{unfilled}
 use Rattle.drawing_reader.specs.declared.label.Places.{Places}
 use Rattle.drawing_reader.specs.declared.label.PlacesRead.{PlacesRead}
-use Rattle.drawing_reader.specs.inner.Label.{Label, LabelPart, nameFrom, field, placesTold, placesTaken}
+use Rattle.drawing_reader.specs.inner.Label.{Label, LabelPart, nameFrom, field, placesTold, placesTaken, Fielded}
 use Rattle.drawing_reader.proofs.Fields.{unfilled-from}
+use Rattle.drawing_reader.proofs.Labels.{told-formed}
 use Rattle.drawing_reader.proofs.label.label.Statement.{statement}
 use Rattle.drawing_reader.proofs.label.label.Tie as tie
 
@@ -22,6 +24,14 @@ names-told : (t : List ℕ) (l : Places) {first second : List ℕ} → first ≡
 unfolding withNames
 names-told t l e f =
     ap₂ (withNames l) (sym (ap unfilled e ∙ unfilled-from t (l .upstream))) (sym (ap unfilled f ∙ unfilled-from t (l .target)))
+
+-- the fields hold names and zeros
+fielded : (t : List ℕ) (i : ℕ) {x : List ℕ} → x ≡ field (nameFrom t i) → Fielded x
+fielded t i e = ap (λ (y : List ℕ). field (unfilled y)) e ∙ ap field (unfilled-from t i) ∙ sym e
+
+no-name : Fielded (replicate 16 0)
+unfolding unfilled
+no-name = refl
 
 label-places-requires : tie.Need-label-places-requires
 label-places-requires c κs = search needs
@@ -42,7 +52,10 @@ returns : tie.Need-returns
 returns c =
     let places = c .before .before .before in
     let t : List ℕ = now (places .before .before .args .text) in
-    subst (λ (r : PlacesRead). Finds LabelPart t 0 (placesTaken t r)) (c .before .place .given .1) (places .label-places .ensures)
+    (
+      subst (λ (r : PlacesRead). Finds LabelPart t 0 (placesTaken t r)) (c .before .place .given .1) (places .label-places .ensures),
+      record { way = zero-le; ups = zero-le; targets = zero-le; upstream = no-name; target = no-name },
+    )
 
 returns-2 : tie.Need-returns-2
 unfolding withNames
@@ -52,7 +65,16 @@ returns-2 c =
     let l = read .l .given .0 .0 in
     let t : List ℕ = now (places .before .before .args .text) in
     let told = subst (λ (r : PlacesRead). Finds LabelPart t 0 (placesTaken t r)) (read .l .given .1) (places .label-places .ensures) in
-    subst (λ (x : Label). Finds LabelPart t 0 (took (l .next) x)) (names-told t l (c .before .name-field .ensures) (c .name-field2 .ensures)) told
+    let formed = told-formed told in (
+      subst (λ (x : Label). Finds LabelPart t 0 (took (l .next) x)) (names-told t l (c .before .name-field .ensures) (c .name-field2 .ensures)) told,
+      record {
+        way = formed .way;
+        ups = formed .ups;
+        targets = formed .targets;
+        upstream = fielded t (l .upstream) (c .before .name-field .ensures);
+        target = fielded t (l .target) (c .name-field2 .ensures);
+      },
+    )
 
 pub label-spec : {M : Type 1} → statement M
 label-spec =
