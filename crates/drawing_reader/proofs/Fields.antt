@@ -1,50 +1,26 @@
--- A name in its field: the name bytes that stand in a text fill the front of it one by one, and they are what stands there before the first zero.
--- Assumes nothing.
+-- A name in its field: name bytes are no zeros, so the name is what stands there before the first zero. Assumes nothing.
 use Prim.Native.Nat.{ℕ, zero, suc, _+_, _-_, _≤_, _<_, suc-le-suc}
 use mathlib.Core.Path.{_≡_, refl, sym, ap, ap₂, subst, _∙_}
-use mathlib.Core.Bool.{Bool, true, false, cond}
 use mathlib.Core.List.{List, [], _∷_, _++_}
 use native.Mathlib.Omega.{arith}
-use native.Mathlib.Numerals.{add-one}
 use borrow.Author.Tests.{ne-eqb}
 use lib.Dec.{T}
-use lib.ListN.{length, take, drop, getD, set, replicate, length-append, length-drop, length-replicate, getD-replicate}
-use lib.ListN.{take-append-drop, List·getD-append}
-use lib.Seq.{length-take-le, take-suc, set-at, append-snoc, getD-append-add, getD-drop, getD-take, ext-getD}
-use Rattle.ground.specs.Bytes.{at, nameByte}
+use lib.ListN.{length, take, drop, getD, replicate, length-drop, length-replicate, getD-replicate, take-append-drop}
+use lib.Seq.{length-take-le, getD-drop, getD-take, ext-getD}
+use Rattle.ground.specs.Bytes.{nameByte}
 use Rattle.ground.proofs.Truths.{is-true, holds}
 use Rattle.texts.specs.NamePart.{NameBytes, NameFormed, nameRun}
-use Rattle.texts.proofs.NamePart.{each-at}
+use Rattle.texts.proofs.NamePart.{each-at, run-bytes}
 use Rattle.printing.specs.Name.{unfilled}
 use Rattle.image.specs.Image.{NameField}
+use Rattle.image.proofs.NameFields.{filled-field}
 use Rattle.drawing_reader.specs.inner.Label.{nameIn, nameFrom, field}
 
--- one byte more in place of a zero, and all of them
-module _ (s : List ℕ) (i : ℕ) where
-  pub field-more : i < length s → i < 16 → set (take i s ++ replicate (16 - i) 0) i (getD s i 0) ≡ take (i + 1) s ++ replicate (16 - (i + 1)) 0
-  field-more ls li =
-      let k : ℕ = 16 - (i + 1) in
-      let e : 16 - i ≡ suc k = omega arith in
-      ap (λ (n : ℕ). set (take i s ++ replicate n 0) i (getD s i 0)) e
-      ∙ set-at (take i s) 0 (replicate k 0) (getD s i 0) i (length-take-le i s (omega arith))
-      ∙ sym (append-snoc (take i s) (getD s i 0) (replicate k 0))
-      ∙ ap (λ (l : List ℕ). l ++ replicate k 0) (sym (take-suc s i 0 ls) ∙ ap (λ (n : ℕ). take n s) (sym (add-one i)))
-
-  pub field-done : i ≤ length s → i ≡ nameRun 16 s → take i s ++ replicate (16 - i) 0 ≡ field (nameIn s)
-  field-done ls e =
-      ap₂ (λ (l : List ℕ) (n : ℕ). l ++ replicate (16 - n) 0) (ap (λ (k : ℕ). take k s) e)
-      (sym (length-take-le i s ls) ∙ ap (λ (k : ℕ). length (take k s)) e)
-
--- what is counted are name bytes
-run-bytes : (limit : ℕ) (s : List ℕ) → NameBytes (take (nameRun limit s) s)
-unfolding nameRun
-run-bytes zero s = tt
-run-bytes (suc limit) [] = tt
-run-bytes (suc limit) (b ∷ s) = by (nameByte b) (λ t. t) (run-bytes limit s)
-  where
-    by : (q : Bool) → (T q → T (nameByte b)) → NameBytes (take (nameRun limit s) s) → NameBytes (take (cond q (suc (nameRun limit s)) 0) (b ∷ s))
-    by true to r = (to tt, r)
-    by false to r = tt
+-- all the bytes of a name that were counted
+pub field-done : (s : List ℕ) (i : ℕ) → i ≤ length s → i ≡ nameRun 16 s → take i s ++ replicate (16 - i) 0 ≡ field (nameIn s)
+field-done s i ls e =
+    ap₂ (λ (l : List ℕ) (n : ℕ). l ++ replicate (16 - n) 0) (ap (λ (k : ℕ). take k s) e)
+    (sym (length-take-le i s ls) ∙ ap (λ (k : ℕ). length (take k s)) e)
 
 -- a name is what stands before the zeros
 unfilled-front : (n : List ℕ) (p : ℕ) → NameBytes n → unfilled (n ++ replicate p 0) ≡ n
@@ -57,29 +33,13 @@ unfilled-front (b ∷ n) p h = rw (ne-eqb b 0 not-zero) (ap (λ (l : List ℕ). 
     not-zero z = subst (λ (c : ℕ). T (nameByte c)) z (h .0)
 
 pub unfilled-from : (t : List ℕ) (i : ℕ) → unfilled (field (nameFrom t i)) ≡ nameFrom t i
-unfilled-from t i = unfilled-front (nameFrom t i) (16 - length (nameFrom t i)) (run-bytes 16 (drop i t))
+unfilled-from t i = unfilled-front (nameFrom t i) (16 - length (nameFrom t i)) (run-bytes (drop i t))
 
 -- the field of a name, and its name
 module _ (n : List ℕ) (f : NameFormed n) where
-  zeros : List ℕ
-  zeros = replicate (16 - length n) 0
-
   pub field-formed : NameField (field n)
-  unfolding zeros
-  field-formed = record {
-    size = omega (arith, length-append n zeros, length-replicate {A = ℕ} (16 - length n) 0, f .few);
-    name = length n;
-    some = f .some;
-    few = f .few;
-    bytes = λ k l.
-        ap nameByte (List·getD-append n zeros 0 k l)
-        ∙ is-true (nameByte (getD n k 0)) (each-at (λ (b : ℕ). T (nameByte b)) n 0 (f .bytes) k l);
-    zeros = λ k l m.
-        let e : length n + (k - length n) ≡ k = omega arith in
-        ap (at (field n)) (sym e)
-        ∙ getD-append-add n zeros (k - length n) 0
-        ∙ getD-replicate {A = ℕ} (16 - length n) (k - length n) 0 0 (omega arith);
-  }
+  field-formed =
+      filled-field n (f .some) (f .few) λ k l. is-true (nameByte (getD n k 0)) (each-at (λ (b : ℕ). T (nameByte b)) n 0 (f .bytes) k l)
 
   pub field-name : unfilled (field n) ≡ n
   field-name = unfilled-front n (16 - length n) (f .bytes)

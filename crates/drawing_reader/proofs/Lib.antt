@@ -10,3 +10,4 @@ pub mod EdgeRows
 pub mod EdgeLines
 pub mod Whole
 pub mod Theorems
+pub mod Reading

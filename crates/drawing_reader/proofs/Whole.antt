@@ -33,7 +33,7 @@ use Rattle.drawing_reader.proofs.EdgeRows.{unique-rows, some-rows}
 use Rattle.drawing_reader.proofs.EdgeLines.{in-order-all, access-word, word-access, fence-word, word-fence, rows-told, rows-written, rows-of, rows-begin}
 
 -- a label and a number of nodes that were told make a shape
-shaped-for : (l : Label) (n : ℕ) → LabelFormed l → 1 ≤ n → n ≤ 255 → Shaped (shapeFor l n)
+pub shaped-for : (l : Label) (n : ℕ) → LabelFormed l → 1 ≤ n → n ≤ 255 → Shaped (shapeFor l n)
 shaped-for l n f some few = record { some = some; states = few; letters = omega (arith, f .ups); targets = f .targets }
 
 module _ (l : Label) (n : ℕ) (shaped : Shaped (shapeFor l n)) where

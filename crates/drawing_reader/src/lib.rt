@@ -1,12 +1,13 @@
 // A drawing read back: from its text to the image of the machine that it draws.
-ghost use Prim.Native.Nat.{_+_, _*_, _≤_, _<_};
+ghost use Prim.Native.Nat.{_*_, _≤_};
 ghost use mathlib.Core.Path.{_≡_};
 ghost use lib.ListN.{length};
 ghost use Rattle.answers.specs.Given.{Answers};
 ghost use Rattle.operations.specs.Alphabet.{stride};
 ghost use Rattle.drawing_reader.specs.Undrawing.{Undrawn};
-ghost use Rattle.drawing_reader.specs.inner.Label.{labelOf, labelFor, Fielded, Told};
-ghost use Rattle.drawing_reader.specs.inner.Whole.{FromEdges, FromNodes, WholePart, ReadsDrawn};
+ghost use Rattle.drawing_reader.specs.inner.Label.{LabelFormed, labelOf, labelFor, Fielded, Told};
+ghost use Rattle.drawing_reader.specs.inner.Edges.{Shaped};
+ghost use Rattle.drawing_reader.specs.inner.Whole.{shapeFor, FromEdges, FromNodes, WholePart, ReadsDrawn};
 mod decimal;
 mod edges;
 mod label;
@@ -34,7 +35,7 @@ struct DrawingRead {
 
 // The edges and the last line, from the first edge on.
 fn read_edges(text: &[u8], at: usize, header: Header, rows: &mut [u16]) -> Step
-    requires { ⌜ (1 ≤ header .states) × (header .ups ≤ 16) × (header .targets ≤ 16) × (header .states * stride ≤ length (now rows)) ⌝ }
+    requires { ⌜ Shaped (shapeFor (labelFor header) (header .states)) × (header .states * stride ≤ length (now rows)) ⌝ }
     ensures { λ r. ⌜ ReadsDrawn (FromEdges (labelFor header) (header .states)) (now (text .entry)) at (now (rows .entry)) header r
         (now (rows .exit)) ⌝ }
 {
@@ -68,7 +69,7 @@ fn header_for(label: LabelRead, states: usize) -> Header
 
 // From the nodes on.
 fn read_nodes(text: &[u8], at: usize, label: LabelRead, rows: &mut [u16]) -> DrawingRead
-    requires { ⌜ Told label × (255 * stride ≤ length (now rows)) ⌝ }
+    requires { ⌜ Told label × LabelFormed (labelOf label) × (255 * stride ≤ length (now rows)) ⌝ }
     ensures { λ r. ⌜ ReadsDrawn (FromNodes (labelOf label)) (now (text .entry)) at (now (rows .entry)) (r .header) (r .step) (now (rows .exit))
         × Fielded (r .header .upstream) × Fielded (r .header .target) ⌝ }
 {

@@ -1,17 +1,16 @@
 -- What is made of two models that were read is a machine of the layout: their names fill their fields, and every word of the rows is an access's or
 -- an upstream fence's. Assumes nothing.
 use Prim.Native.Nat.{ℕ, _+_, _-_, _/_, _%_, _≤_, _<_}
-use mathlib.Core.Path.{_≡_, refl, sym, ap, subst, _∙_}
+use mathlib.Core.Path.{_≡_, refl, sym, subst, _∙_}
 use mathlib.Core.Bool.{Bool, true, false, cond}
 use mathlib.Core.Logic.{inl, inr}
 use mathlib.Core.List.{List, _++_}
 use native.Mathlib.Omega.{arith}
 use borrow.Author.Tests.{lt-ltb, le-ltb}
 use lib.Dec.{T, eqb}
-use lib.ListN.{length, getD, replicate, length-append, length-replicate, getD-replicate, List·getD-append}
-use lib.Seq.{getD-append-add}
+use lib.ListN.{length, getD, replicate}
 use Rattle.ground.proofs.Truths.{differ, is-true}
-use Rattle.ground.specs.Bytes.{at, nameByte}
+use Rattle.ground.specs.Bytes.{nameByte}
 use Rattle.answers.specs.declared.Verdict.{Verdict}
 use Rattle.rule.specs.declared.way.Way.{Way}
 use Rattle.rule.specs.declared.situation.Situation.{Situation}
@@ -35,24 +34,12 @@ use Rattle.machine.specs.Shim.{lettersOf, shim}
 use Rattle.machine.specs.Generated.{ProperWord, refusing, passing, Making}
 use Rattle.image.specs.Image.{word, NameField, AccessWord, FenceWord, Canonical}
 use Rattle.image.specs.declared.machine.Header.{Header}
+use Rattle.image.proofs.NameFields.{filled-field}
 use Rattle.generation.specs.Generating.{headerFor}
 
 name-field : (n : List ℕ) → NameFormed n → NameField (n ++ replicate (16 - length n) 0)
 name-field n f =
-    record {
-      size = omega (arith, length-append n (replicate (16 - length n) 0), length-replicate {A = ℕ} (16 - length n) 0, f .few);
-      name = length n;
-      some = f .some;
-      few = f .few;
-      bytes = λ k l.
-          ap nameByte (List·getD-append n (replicate (16 - length n) 0) 0 k l)
-          ∙ is-true (nameByte (getD n k 0)) (each-at (λ (b : ℕ). T (nameByte b)) n 0 (f .bytes) k l);
-      zeros = λ k l m.
-          let e : length n + (k - length n) ≡ k = omega arith in
-          ap (at (n ++ replicate (16 - length n) 0)) (sym e)
-          ∙ getD-append-add n (replicate (16 - length n) 0) (k - length n) 0
-          ∙ getD-replicate {A = ℕ} (16 - length n) (k - length n) 0 0 (omega arith);
-    }
+    filled-field n (f .some) (f .few) λ k l. is-true (nameByte (getD n k 0)) (each-at (λ (b : ℕ). T (nameByte b)) n 0 (f .bytes) k l)
 
 -- the name of a model that was read fills a field
 named-told : {t : List ℕ} {r : Reading} → Told t r → r .verdict ≡ Verdict.Accepted → NameField (r .model .name .bytes)

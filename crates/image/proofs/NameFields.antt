@@ -1,11 +1,13 @@
 -- A name field has no barred byte exactly where it is a name filled up with zeros. Assumes nothing.
-use Prim.Native.Nat.{ℕ, zero, suc, _+_, _<_, _≤_}
+use Prim.Native.Nat.{ℕ, zero, suc, _+_, _-_, _<_, _≤_}
 use mathlib.Core.Path.{_≡_, refl, sym, ap, _∙_}
 use mathlib.Core.Bool.{true, false}
-use mathlib.Core.List.{List}
+use mathlib.Core.List.{List, _++_}
 use native.Mathlib.Decide.{ℕ-discrete, decLt}
 use native.Mathlib.Omega.{arith}
 use borrow.Author.Tests.{eq-eqb, ne-eqb}
+use lib.ListN.{length, replicate, length-append, length-replicate, getD-replicate, List·getD-append}
+use lib.Seq.{getD-append-add}
 use Rattle.ground.proofs.Truths.{true-false}
 use Rattle.ground.specs.Bytes.{at, nameByte}
 use Rattle.layout.specs.Barred.{ended, barredName}
@@ -108,3 +110,23 @@ module _ (image : List ℕ) (from : ℕ) where
         go (no w) =
             let n : is .name ≤ k = omega arith in
             rw (eq-eqb _ _ (there k l ∙ is .zeros k n l), ne-eqb k 0 (λ z. omega (arith, is .some)))
+
+-- a name filled up with zeros is a name field
+module _ (n : List ℕ) (positive : 0 < length n) (short : length n ≤ 16) (named : (k : ℕ) → k < length n → nameByte (at n k) ≡ true) where
+  filling : List ℕ
+  filling = replicate (16 - length n) 0
+
+  pub filled-field : NameField (n ++ replicate (16 - length n) 0)
+  unfolding filling
+  filled-field = record {
+    size = omega (arith, length-append n filling, length-replicate {A = ℕ} (16 - length n) 0);
+    name = length n;
+    some = positive;
+    few = short;
+    bytes = λ k l. ap nameByte (List·getD-append n filling 0 k l) ∙ named k l;
+    zeros = λ k l m.
+        let e : length n + (k - length n) ≡ k = omega arith in
+        ap (at (n ++ filling)) (sym e)
+        ∙ getD-append-add n filling (k - length n) 0
+        ∙ getD-replicate {A = ℕ} (16 - length n) (k - length n) 0 0 (omega arith);
+  }

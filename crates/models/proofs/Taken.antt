@@ -7,7 +7,7 @@ use native.Mathlib.Omega.{arith}
 use native.Mathlib.Numerals.{add-one}
 use native.Mathlib.Decide.{ℕ-discrete}
 use lib.ListN.{length, take, drop, getD, set, replicate, drop-of-length-le}
-use lib.Seq.{length-take-le, take-suc, drop-cons, set-at, append-snoc, getD-set-same, getD-set-other}
+use lib.Seq.{length-take-le, drop-cons, getD-set-same, getD-set-other}
 use Rattle.ground.specs.Bytes.{sameBytes}
 use Rattle.tables.specs.Strength.{levelOf}
 use Rattle.tables.specs.Table.{place, rowNumber, columnNumber, levelsTable}
@@ -17,17 +17,7 @@ use Rattle.models.specs.Told.{filled}
 use Rattle.models.specs.Reading.{tableIn}
 use Rattle.models.specs.inner.Progress.{among}
 
--- the next byte of a name, in place of a zero
-pub name-more : (s : List ℕ) (i : ℕ) → i < length s → i < 16
-    → set (take i s ++ replicate (16 - i) 0) i (getD s i 0) ≡ take (i + 1) s ++ replicate (16 - (i + 1)) 0
-name-more s i ls li =
-    let k : ℕ = 16 - (i + 1) in
-    let e : 16 - i ≡ suc k = omega arith in
-    ap (λ (n : ℕ). set (take i s ++ replicate n 0) i (getD s i 0)) e
-    ∙ set-at (take i s) 0 (replicate k 0) (getD s i 0) i (length-take-le i s (omega arith))
-    ∙ sym (append-snoc (take i s) (getD s i 0) (replicate k 0))
-    ∙ ap (λ (l : List ℕ). l ++ replicate k 0) (sym (take-suc s i 0 ls) ∙ ap (λ (n : ℕ). take n s) (sym (add-one i)))
-
+-- all bytes of a name
 pub name-done : (s : List ℕ) (i : ℕ) → i ≤ length s → take i s ≡ take 16 s → record { bytes = take i s ++ replicate (16 - i) 0 } ≡ filled (take 16 s)
 name-done s i li e =
     ap (λ (l : List ℕ). record { bytes = l })

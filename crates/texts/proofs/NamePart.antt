@@ -55,6 +55,9 @@ run-within s = run-is 16 s .within
 pub run-few : (s : List ℕ) → nameRun 16 s ≤ 16
 run-few s = run-is 16 s .few
 
+pub run-bytes : (s : List ℕ) → NameBytes (take (nameRun 16 s) s)
+run-bytes s = run-is 16 s .bytes
+
 module _ (e : ℕ) (not-name : T (nameByte e) → ⊥) where
   -- where a text s that goes on as a name and e after it was begun: before its j-th byte s says what the name has there
   in-name : (s rest n : List ℕ) (j i : ℕ) → j ≤ length s → i < j → take j s ++ rest ≡ n ++ (e ∷ []) → i < length n → getD s i 0 ≡ getD n i 0

@@ -1,16 +1,16 @@
--- One byte more of a pattern or of a name, at a place of the whole text: what the loops of `follow` and `name_bytes` go by, and where a name
--- ends. Assumes nothing.
+-- One byte more of a pattern, of a name or of a name's field, at a place of the whole text: what loops go by, and where a name ends.
+-- Assumes nothing.
 use Prim.Native.Nat.{ℕ, zero, suc, _+_, _-_, _≤_, _<_}
 use mathlib.Core.Path.{_≡_, refl, sym, ap, ap₂, _∙_}
 use mathlib.Core.Bool.{Bool, true, false, cond}
-use mathlib.Core.List.{List}
+use mathlib.Core.List.{List, _++_}
 use native.Mathlib.Omega.{arith}
 use native.Mathlib.Nat.{add-zero}
 use native.Mathlib.Numerals.{add-one}
 use native.Mathlib.Decide.{decLt, ℕ-discrete}
 use borrow.Author.Tests.{eq-eqb, ne-eqb, lt-ltb, le-ltb}
-use lib.ListN.{length, drop, getD, drop-of-length-le, length-drop}
-use lib.Seq.{drop-cons, getD-drop}
+use lib.ListN.{length, take, drop, getD, set, replicate, drop-of-length-le, length-drop}
+use lib.Seq.{length-take-le, take-suc, drop-cons, getD-drop, set-at, append-snoc}
 use Rattle.ground.specs.Bytes.{nameByte}
 use Rattle.ground.proofs.Truths.{differ}
 use Rattle.texts.specs.declared.Step.{Step}
@@ -83,6 +83,17 @@ run-more t here n ln l f =
     let up : nameRun k (drop (suc here) t) ≡ nameRun k (drop (here + 1) t) = ap (λ (m : ℕ). nameRun k (drop m t)) (sym (add-one here)) in
     let whole : nameRun (16 - n) (drop here t) ≡ suc (nameRun k (drop (here + 1) t)) = ap (λ (m : ℕ). nameRun m (drop here t)) e ∙ one ∙ ap suc up in
     omega arith
+
+-- in a field of 16 bytes that zeros fill up, the next byte goes in place of a zero
+pub filled-more : (s : List ℕ) (i : ℕ) → i < length s → i < 16
+    → set (take i s ++ replicate (16 - i) 0) i (getD s i 0) ≡ take (i + 1) s ++ replicate (16 - (i + 1)) 0
+filled-more s i ls li =
+    let k : ℕ = 16 - (i + 1) in
+    let e : 16 - i ≡ suc k = omega arith in
+    ap (λ (n : ℕ). set (take i s ++ replicate n 0) i (getD s i 0)) e
+    ∙ set-at (take i s) 0 (replicate k 0) (getD s i 0) i (length-take-le i s (omega arith))
+    ∙ sym (append-snoc (take i s) (getD s i 0) (replicate k 0))
+    ∙ ap (λ (l : List ℕ). l ++ replicate k 0) (sym (take-suc s i 0 ls) ∙ ap (λ (n : ℕ). take n s) (sym (add-one i)))
 
 -- a name of n bytes has been counted
 module _ (e : ℕ) (t : List ℕ) (at n : ℕ) (h : n ≡ nameRun 16 (drop at t)) where

@@ -9,8 +9,8 @@ use denote.Ref.{now}
 use lib.ListN.{length, getD, take, drop, set, replicate, length-drop}
 use lib.Seq.{getD-drop}
 use Rattle.texts.specs.NamePart.{nameRun}
-use Rattle.texts.proofs.Steps.{run-over, run-not, run-full, run-more}
-use Rattle.drawing_reader.proofs.Fields.{field-more, field-done}
+use Rattle.texts.proofs.Steps.{run-over, run-not, run-full, run-more, filled-more}
+use Rattle.drawing_reader.proofs.Fields.{field-done}
 use Rattle.drawing_reader.proofs.label.name_field.Statement.{statement}
 use Rattle.drawing_reader.proofs.label.name_field.Tie as tie
 
@@ -82,7 +82,7 @@ loop-again c =
       l .inv .3 ∙ run-more t (l .here) (l .n) (test .loop-test .taken) (more .if1 .left) one,
       ap (λ (b : ℕ). set (l .bytes) (l .n) b) stands
           ∙ ap (λ (x : List ℕ). set x (l .n) (getD s (l .n) 0)) (l .inv .4)
-          ∙ field-more s (l .n) (omega (arith, long)) (omega arith),
+          ∙ filled-more s (l .n) (omega (arith, long)) (omega arith),
     )
 
 returns-3 : tie.Need-returns-3 Inv-loop μ-loop

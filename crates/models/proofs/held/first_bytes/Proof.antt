@@ -7,7 +7,8 @@ use borrow.Author.Needs.{needs}
 use denote.Ref.{now}
 use lib.ListN.{length, getD, take, set, replicate}
 use lib.Seq.{take-all}
-use Rattle.models.proofs.Taken.{name-more, name-done}
+use Rattle.texts.proofs.Steps.{filled-more}
+use Rattle.models.proofs.Taken.{name-done}
 use Rattle.models.proofs.held.first_bytes.Statement.{statement}
 use Rattle.models.proofs.held.first_bytes.Tie as tie
 
@@ -43,7 +44,7 @@ loop-again : tie.Need-loop-again Inv-loop μ-loop
 loop-again c =
     let l = c .before .before .before .loop in
     let t = now (c .before .before .before .before .args .text) in
-    (search needs, search needs, ap (λ (s : List ℕ). set s (l .i) (getD t (l .i) 0)) (l .inv .2) ∙ name-more t (l .i) (omega arith) (omega arith))
+    (search needs, search needs, ap (λ (s : List ℕ). set s (l .i) (getD t (l .i) 0)) (l .inv .2) ∙ filled-more t (l .i) (omega arith) (omega arith))
 
 returns-2 : tie.Need-returns-2 Inv-loop μ-loop
 returns-2 c =
