@@ -11,3 +11,4 @@ pub mod EdgeLines
 pub mod Whole
 pub mod Theorems
 pub mod Reading
+pub mod Unique

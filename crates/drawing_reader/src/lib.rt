@@ -8,10 +8,12 @@ ghost use Rattle.drawing_reader.specs.Undrawing.{Undrawn};
 ghost use Rattle.drawing_reader.specs.inner.Label.{LabelFormed, labelOf, labelFor, Fielded, Told};
 ghost use Rattle.drawing_reader.specs.inner.Edges.{Shaped};
 ghost use Rattle.drawing_reader.specs.inner.Whole.{shapeFor, FromEdges, FromNodes, WholePart, ReadsDrawn};
+
 mod decimal;
 mod edges;
 mod label;
 mod nodes;
+
 use answers::Answer;
 use answers::Refusal;
 use edges::Shape;

@@ -26,8 +26,7 @@ read-nodes-requires c κs =
 returns : tie.Need-returns
 returns c =
     let label = c .before .before .before .before in
-    let t = now (label .before .before .before .args .text) in
-    (
+    let t = now (label .before .before .before .args .text) in (
       label-stop t (label .label .result) (label .label .ensures .0) (c .before .before .step .given .1) _ _,
       c .header-for .ensures .2,
       c .header-for .ensures .3,
@@ -40,8 +39,7 @@ returns-2 : tie.Need-returns-2
 returns-2 c =
     let nodes = c .before .before in
     let label = nodes .before .before .before .before .before in
-    let t = now (label .before .before .before .args .text) in
-    (
+    let t = now (label .before .before .before .args .text) in (
       label-go t (label .label .result) (label .label .ensures .0) (nodes .before .before .before .step2 .given .1) _ _ _ (nodes .read-nodes .ensures .0),
       nodes .read-nodes .ensures .1,
       nodes .read-nodes .ensures .2,

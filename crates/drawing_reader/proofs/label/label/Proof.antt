@@ -51,8 +51,7 @@ name-field-requires-2 c κs = search needs
 returns : tie.Need-returns
 returns c =
     let places = c .before .before .before in
-    let t : List ℕ = now (places .before .before .args .text) in
-    (
+    let t : List ℕ = now (places .before .before .args .text) in (
       subst (λ (r : PlacesRead). Finds LabelPart t 0 (placesTaken t r)) (c .before .place .given .1) (places .label-places .ensures),
       record { way = zero-le; ups = zero-le; targets = zero-le; upstream = no-name; target = no-name },
     )
