@@ -36,7 +36,7 @@ use Rattle.demands.proofs.Models.{model-told, told-model, built-in-told
 use Rattle.demands.specs.ImageCalls.{ImageRefused, ReadRefused, ImageRunRefused}
 use Rattle.demands.proofs.Images.{verdict-told, told-verdict, back-told, told-back, run-told, told-run}
 use Rattle.demands.specs.Drawings.{DrawRefused, UndrawRefused}
-use Rattle.demands.proofs.Drawings.{One, draw-told, told-draw, undraw-told, told-undraw}
+use Rattle.demands.proofs.Drawings.{draw-told, told-draw, undraw-told, told-undraw}
 use Rattle.demands.specs.Generated as generate
 use Rattle.demands.specs.Generated.{GenerateRefused, situations, states, ImageExceeds}
 use Rattle.demands.proofs.Delivered.{done-gave, Withheld, refused, exceeds, refused-withheld, withheld-refused}
@@ -194,11 +194,11 @@ draw-refused-exactly-when image {out} {after = after} call why = (
 )
 
 -- and a drawing that is read back exactly when 02 says.
-pub undraw-refused-exactly-when : One → (text : List ℕ) {out : List ℕ} {r : Answer} {after : List ℕ} → Answers (Undrawn text) out r after
+pub undraw-refused-exactly-when : (text : List ℕ) {out : List ℕ} {r : Answer} {after : List ℕ} → Answers (Undrawn text) out r after
     → (why : Refusal) → (r ≡ Answer.Refused why) ↔ UndrawRefused text (length out) why
-undraw-refused-exactly-when one text {out} {after = after} call why = (
+undraw-refused-exactly-when text {out} {after = after} call why = (
   λ e. undraw-told (call .right) (refused-withheld (subst (λ (x : Answer). Delivers (call .given) out x after) e (call .delivered)) .1),
-  λ h. withheld-refused (call .delivered) (told-undraw one (call .right) h),
+  λ h. withheld-refused (call .delivered) (told-undraw (call .right) h),
 )
 
 -- A model's text that is read and written back, and a built-in model, are refused exactly when 01 says.

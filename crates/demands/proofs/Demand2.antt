@@ -50,7 +50,7 @@ use Rattle.demands.specs.Drawings.{DrawnAs, DrawDone, UndrawDone, withNa
 use Rattle.demands.specs.Listings.{ListDone}
 use Rattle.demands.proofs.Accepted as accepted
 use Rattle.demands.proofs.Delivered.{done-gave, gave-done, gave-bytes}
-use Rattle.demands.proofs.Drawings.{One, drawing-given, image-given, undrawn-accepted, accepted-undrawn, drawing-done, undrawing-done}
+use Rattle.demands.proofs.Drawings.{drawing-given, image-given, undrawn-accepted, accepted-undrawn, drawing-done, undrawing-done}
 use Rattle.demands.proofs.Renaming as renaming
 use Rattle.demands.proofs.Generating as generating
 use Rattle.demands.proofs.Listing as listing
@@ -165,12 +165,12 @@ pub undraw-done : (text : List ℕ) {out : List ℕ} {written fences state : ℕ
 undraw-done = undrawing-done
 
 -- From image to drawing to image: what was drawn is read back as the image's own bytes.
-pub drawn-back : One → (image : List ℕ) → ((k : ℕ) → at image k < 256) → {out : List ℕ} {written fences state : ℕ} {after : List ℕ}
+pub drawn-back : (image : List ℕ) → ((k : ℕ) → at image k < 256) → {out : List ℕ} {written fences state : ℕ} {after : List ℕ}
     → Delivers (drawn image) out (Answer.Done written fences state) after
     → {back : List ℕ} {r : Answer} {back-after : List ℕ} → Answers (Undrawn (take written after)) back r back-after → length image ≤ length back
     → (r ≡ Answer.Done (length image) 0 0) × (take (length image) back-after ≡ image)
-drawn-back one image bytes drew call l =
-    let is = image-given one (drawing-done image bytes drew .drawn) (call .right) in
+drawn-back image bytes drew call l =
+    let is = image-given (drawing-done image bytes drew .drawn) (call .right) in
     (gave-done (call .delivered) is l, gave-bytes (call .delivered) is l)
 
 -- From drawing to image to drawing: an image that was read from a drawing is drawn as that text.
@@ -183,9 +183,9 @@ undrawn-back text read call l =
     (gave-done call is l, gave-bytes call is l)
 
 -- A text is read back, if the image fits, exactly when it is the drawing of some image that reads.
-pub undraw-accepts-exactly : One → (text : List ℕ) {out : List ℕ} {r : Answer} {after : List ℕ} → Answers (Undrawn text) out r after
+pub undraw-accepts-exactly : (text : List ℕ) {out : List ℕ} {r : Answer} {after : List ℕ} → Answers (Undrawn text) out r after
     → ((why : Refusal) → r ≡ Answer.Refused why → why ≡ Refusal.BufferTooSmall) ↔ ((image : List ℕ) × DrawnAs image text)
-undraw-accepts-exactly one text call = (undrawn-accepted call, λ (image, d). accepted-undrawn call one d)
+undraw-accepts-exactly text call = (undrawn-accepted call, λ (image, d). accepted-undrawn call d)
 
 -- A drawing has two names; where others are put in their place and nothing else is changed, it is read back as the image with these names, and
 -- nothing else is changed.
@@ -193,15 +193,15 @@ pub drawing-names : {image text : List ℕ} → DrawnAs image text
     → (upstream target rest : List ℕ) × NameFormed upstream × NameFormed target × (text ≡ withNames upstream target rest)
 drawing-names = renaming.drawing-names
 
-pub names-changed : One → {image : List ℕ} (upstream target upstream′ target′ rest : List ℕ) → NameFormed upstream → NameFormed target
+pub names-changed : {image : List ℕ} (upstream target upstream′ target′ rest : List ℕ) → NameFormed upstream → NameFormed target
     → NameFormed upstream′ → NameFormed target′ → DrawnAs image (withNames upstream target rest)
     → {out : List ℕ} {r : Answer} {after : List ℕ} → Answers (Undrawn (withNames upstream′ target′ rest)) out r after → length image ≤ length out
     → (r ≡ Answer.Done (length image) 0 0) × Renamed upstream′ target′ (take (length image) after) image
-names-changed one {image} upstream target upstream′ target′ rest fu ft fu′ ft′ d {out} {after = after} call l =
+names-changed {image} upstream target upstream′ target′ rest fu ft fu′ ft′ d {out} {after = after} call l =
     let new = renaming.renamed-drawn upstream target upstream′ target′ rest fu ft fu′ ft′ d in
     let other : List ℕ = new .0 in
     let size : length other ≡ length image = new .2 .size in
-    let is = image-given one (new .1) (call .right) in
+    let is = image-given (new .1) (call .right) in
     let fits : length other ≤ length out = subst (λ (n : ℕ). n ≤ length out) (sym size) l in (
       gave-done (call .delivered) is fits ∙ ap (λ (n : ℕ). Answer.Done n 0 0) size,
       subst (λ (x : List ℕ). Renamed upstream′ target′ x image)

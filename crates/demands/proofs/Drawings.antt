@@ -1,53 +1,44 @@
--- Drawings and images, each made from the other: a drawing has all that its image has, since no two machines of the layout are drawn alike, and of a
--- machine's words just those that its image has. Assumes nothing.
+-- Drawings and images, each made from the other: a drawing has one image, and that image this drawing, since both hang on the same words of a machine.
+-- Assumes nothing.
 use Prim.Native.Nat.{ℕ, _+_, _*_, _<_, _≤_}
 use mathlib.Core.Path.{_≡_, refl, sym, ap, ap₂, subst, _∙_}
-use mathlib.Core.List.{List, _++_}
+use mathlib.Core.List.{List}
 use native.Mathlib.Omega.{arith}
 use lib.ListN.{length}
-use Rattle.ground.specs.Bytes.{bytes, at}
+use Rattle.ground.specs.Bytes.{at}
 use Rattle.ground.proofs.Truths.{differ}
 use Rattle.answers.specs.declared.Refusal.{Refusal}
 use Rattle.answers.specs.declared.Answer.{Answer}
 use Rattle.answers.specs.declared.Verdict.{Verdict}
 use Rattle.answers.specs.Given.{Given, gives, refuses, unlessRefused, Delivers, Answers}
-use Rattle.operations.specs.Alphabet.{lettersWith, stride}
-use Rattle.printing.specs.Turns.{inTurn}
-use Rattle.printing.proofs.Turns.{inTurn-same}
-use Rattle.texts.specs.Language.{Longest}
-use Rattle.texts.proofs.Language.{longest-one}
+use Rattle.operations.specs.Alphabet.{stride}
 use Rattle.layout.specs.Barred.{verdictOf}
 use Rattle.layout.proofs.Faultless.{accepted-faultless}
 use Rattle.image.specs.declared.machine.Header.{Header}
-use Rattle.image.specs.Image.{listed, word, imageOf, headerOf, rowsOf, Canonical}
+use Rattle.image.specs.Image.{listed, imageOf, headerOf, rowsOf, Canonical}
 use Rattle.image.proofs.Accepted.{canonical-read}
 use Rattle.image.proofs.Canonicals.{canonical-accepted, same-header, same-rows}
 use Rattle.image.proofs.Fronts.{at-listed}
 use Rattle.image.proofs.Theorems.{written-read}
-use Rattle.drawing.specs.Drawing.{labelLine, nodeLine, edgeLine, drawingOf}
+use Rattle.drawing.specs.Drawing.{drawingOf}
 use Rattle.drawing.specs.Calls.{drawn}
 use Rattle.drawing.proofs.Longest.{drawing-length}
-use Rattle.drawing_reader.specs.Undrawing.{Drawing, Undrawn, over, departs, undrawn}
+use Rattle.drawing.proofs.SameWords.{drawing-of-words}
+use Rattle.drawing_reader.specs.Undrawing.{Undrawn, over, departs, undrawn}
+use Rattle.drawing_reader.proofs.Unique.{undrawn-one}
 use Rattle.demands.specs.Drawings as calls
 use Rattle.demands.specs.Drawings.{DrawnAs, DrawDone, UndrawDone, DrawRefused, UndrawRefused}
 use Rattle.demands.proofs.Delivered.{Withheld, refused, exceeds, refused-as, refused-withheld, withheld-refused, done-gave}
 use Rattle.demands.proofs.ImageBytes.{image-bytes}
 use Rattle.demands.proofs.Images.{verdict-told, told-verdict}
 
--- a drawing has no words but those of its states and letters
-drawing-words : (h : Header) (rows other : List ℕ)
-    → ((s a : ℕ) → s < h .states → a < lettersWith (h .ups) → word rows s a ≡ word other s a) → drawingOf h rows ≡ drawingOf h other
-drawing-words h rows other e =
-    ap (λ (t : List ℕ). bytes "digraph shim {\n" ++ (labelLine h ++ (inTurn nodeLine (h .states) ++ (t ++ bytes "}\n"))))
-    (inTurn-same _ _ (h .states) (λ s l. inTurn-same _ _ (lettersWith (h .ups)) (λ a k. ap (edgeLine s a) (e s a l k))))
-
 -- the image of a machine of the layout has the machine's drawing
 pub machine-drawn : (h : Header) (rows : List ℕ) → Canonical h rows → {text : List ℕ} → text ≡ drawingOf h rows → DrawnAs (imageOf h rows) text
 machine-drawn h rows m e =
     let same : drawingOf (headerOf (imageOf h rows)) (rowsOf (imageOf h rows)) ≡ drawingOf h (listed (h .states * stride) (at rows))
     = ap₂ drawingOf (same-header h rows m) (same-rows h rows m) in
-    let words = drawing-words h (listed (h .states * stride) (at rows)) rows
-    (λ s a l k. at-listed (h .states * stride) (at rows) (s * stride + a) (omega (arith, m .ups))) in
+    let words = drawing-of-words h (listed (h .states * stride) (at rows)) rows (m .ups)
+    (λ s a l k. at-listed (h .states * stride) (at rows) (s * stride + a) (omega arith)) in
     record { bytes = image-bytes h rows m; accepted = canonical-accepted h rows m; text-is = e ∙ sym (same ∙ words) }
 
 module _ {image text : List ℕ} (d : DrawnAs image text) where
@@ -91,20 +82,11 @@ given-image {text = text} {image = image} {f = f} {s = s} (undrawn {h = h} {rows
     let no-state : s ≡ 0 = cc in
     (subst (λ (i : List ℕ). DrawnAs i text) same (machine-drawn h rows m t), no-fences, no-state)
 
--- no two machines of the layout are drawn alike
-abbrev pub One : Type 0
-One =
-    (h h′ : Header) (rows rows′ : List ℕ) → Canonical h rows → Canonical h′ rows′ → drawingOf h rows ≡ drawingOf h′ rows′
-    → imageOf h rows ≡ imageOf h′ rows′
-
-module _ (one : One) where
-  -- so reading a drawing back gives nothing else
-  pub image-given : {image text : List ℕ} {g : Given} → DrawnAs image text → Undrawn text g → g ≡ gives image 0 0
-  image-given d (over l) = absurd (omega (arith, drawn-short d))
-  image-given {image = image} d (departs l n k) = absurd (n (headerOf image, rowsOf image, drawn-machine d, d .text-is))
-  image-given {image = image} d (undrawn {h = h} {rows = rows} l m t) =
-      ap (λ (i : List ℕ). gives i 0 0)
-      (sym (one (headerOf image) h (rowsOf image) rows (drawn-machine d) m (sym (d .text-is) ∙ t)) ∙ written-read image (d .bytes) (d .accepted))
+-- and nothing else is given of a drawing
+pub image-given : {image text : List ℕ} {g : Given} → DrawnAs image text → Undrawn text g → g ≡ gives image 0 0
+image-given {image} {text} d u =
+    undrawn-one text u (undrawn (omega (arith, drawn-short d)) (drawn-machine d) (d .text-is))
+    ∙ ap (λ (i : List ℕ). gives i 0 0) (written-read image (d .bytes) (d .accepted))
 
 -- what is withheld by a call that draws an image
 module _ (image : List ℕ) (room : ℕ) where
@@ -142,21 +124,10 @@ undraw-told (undrawn {h = h} {rows = rows} l m t) (exceeds {bytes = bytes} e k) 
     let same : imageOf h rows ≡ bytes = cc in
     calls.too-small l (machine-drawn h rows m t) (omega (arith, k, ap length same))
 
-over-given : {text : List ℕ} {g : Given} → 262144 < length text → Undrawn text g → g ≡ refuses Refusal.OverLimit
-over-given l (over k) = refl
-over-given l (departs k n h) = absurd (omega arith)
-over-given l (undrawn k m t) = absurd (omega arith)
-
-departs-given : {text : List ℕ} {g : Given} {j : ℕ} → length text ≤ 262144 → (Drawing text → ⊥) → Longest Drawing text j → Undrawn text g
-    → g ≡ refuses (Refusal.NotOfTheForm j)
-departs-given l n h (over k) = absurd (omega arith)
-departs-given {text} {j = j} l n h (departs {k = k} a b c) = ap (λ (x : ℕ). refuses (Refusal.NotOfTheForm x)) (longest-one Drawing text k j c h)
-departs-given l n h (undrawn {h = header} {rows = rows} k m t) = absurd (n (header, rows, m, t))
-
-pub told-undraw : One → {text : List ℕ} {room : ℕ} {g : Given} → Undrawn text g → {why : Refusal} → UndrawRefused text room why → Withheld g room why
-told-undraw one u (calls.over-limit l) = refused (over-given l u)
-told-undraw one u (calls.not-of-the-form j l n h) = refused (departs-given l n h u)
-told-undraw one u (calls.too-small l d k) = exceeds (image-given one d u) k
+pub told-undraw : {text : List ℕ} {room : ℕ} {g : Given} → Undrawn text g → {why : Refusal} → UndrawRefused text room why → Withheld g room why
+told-undraw {text} u (calls.over-limit l) = refused (undrawn-one text u (over l))
+told-undraw {text} u (calls.not-of-the-form j l n h) = refused (undrawn-one text u (departs l n h))
+told-undraw u (calls.too-small l d k) = exceeds (image-given d u) k
 
 -- a text is read back exactly where it is a drawing
 module _ {text out : List ℕ} {r : Answer} {after : List ℕ} (call : Answers (Undrawn text) out r after) where
@@ -172,12 +143,12 @@ module _ {text out : List ℕ} {r : Answer} {after : List ℕ} (call : Answers (
           differ (cc)
       by (undrawn {h = h} {rows = rows} l m t) d = (imageOf h rows, machine-drawn h rows m t)
 
-  pub accepted-undrawn : One → {image : List ℕ} → DrawnAs image text → (why : Refusal) → r ≡ Answer.Refused why → why ≡ Refusal.BufferTooSmall
-  accepted-undrawn one {image} d why e = by (refused-withheld (subst (λ (x : Answer). Delivers (call .given) out x after) e (call .delivered)) .1)
+  pub accepted-undrawn : {image : List ℕ} → DrawnAs image text → (why : Refusal) → r ≡ Answer.Refused why → why ≡ Refusal.BufferTooSmall
+  accepted-undrawn {image} d why e = by (refused-withheld (subst (λ (x : Answer). Delivers (call .given) out x after) e (call .delivered)) .1)
     where
       by : {w : Refusal} → Withheld (call .given) (length out) w → w ≡ Refusal.BufferTooSmall
       by {w} (refused h) =
-          let z : gives image 0 0 ≡ refuses w = sym (image-given one d (call .right)) ∙ h in
+          let z : gives image 0 0 ≡ refuses w = sym (image-given d (call .right)) ∙ h in
           differ (cc)
       by (exceeds h l) = refl
 
