@@ -1,5 +1,5 @@
--- Drawings and images, each made from the other: a drawing has one image, and that image this drawing, since both hang on the same words of a machine.
--- Assumes nothing.
+-- Drawings and images, each made from the other: a drawing has one image, and that image has this drawing, since both hang on the same words of a
+-- machine. Assumes nothing.
 use Prim.Native.Nat.{ℕ, _+_, _*_, _<_, _≤_}
 use mathlib.Core.Path.{_≡_, refl, sym, ap, ap₂, subst, _∙_}
 use mathlib.Core.List.{List}
