@@ -20,6 +20,8 @@ use Rattle.answers.specs.declared.Verdict.{Verdict}
 use Rattle.layout.specs.Barred.{verdictOf}
 use Rattle.image.specs.Calls.{writtenBack, Rewrites}
 use Rattle.image_runs.specs.Run.{runOver}
+use Rattle.drawing.specs.Calls.{drawn}
+use Rattle.drawing_reader.specs.Undrawing.{Undrawn}
 use Rattle.writing.specs.Calls.{backGiven}
 use Rattle.built_ins.specs.BuiltIns.{builtInGiven}
 use Rattle.comparison.specs.declared.Compared.{Compared}
@@ -33,6 +35,8 @@ use Rattle.demands.specs.ModelCalls.{ModelRefused, BuiltInRefused, Texts
 use Rattle.demands.proofs.Models.{model-told, told-model, built-in-told, told-built-in, compared-told, told-compared}
 use Rattle.demands.specs.ImageCalls.{ImageRefused, ReadRefused, ImageRunRefused}
 use Rattle.demands.proofs.Images.{verdict-told, told-verdict, back-told, told-back, run-told, told-run}
+use Rattle.demands.specs.Drawings.{DrawRefused, UndrawRefused}
+use Rattle.demands.proofs.Drawings.{draw-told, told-draw, undraw-told, told-undraw}
 use Rattle.demands.specs.Generated as generate
 use Rattle.demands.specs.Generated.{GenerateRefused, situations, states, ImageExceeds}
 use Rattle.demands.proofs.Delivered.{done-gave, Withheld, refused, exceeds, refused-withheld, withheld-refused}
@@ -179,6 +183,22 @@ image-run-refused-exactly-when image start stream {out} {after = after} call why
   λ e. run-told image start stream (length out)
       (refused-withheld (subst (λ (x : Answer). Delivers (runOver image start stream) out x after) e call) .1),
   λ h. withheld-refused call (told-run image start stream (length out) h),
+)
+
+-- An image that is drawn is refused exactly when 01 says of images, or has more to give than fits,
+pub draw-refused-exactly-when : (image : List ℕ) {out : List ℕ} {r : Answer} {after : List ℕ} → Delivers (drawn image) out r after
+    → (why : Refusal) → (r ≡ Answer.Refused why) ↔ DrawRefused image (length out) why
+draw-refused-exactly-when image {out} {after = after} call why = (
+  λ e. draw-told image (length out) (refused-withheld (subst (λ (x : Answer). Delivers (drawn image) out x after) e call) .1),
+  λ h. withheld-refused call (told-draw image (length out) h),
+)
+
+-- and a drawing that is read back exactly when 02 says.
+pub undraw-refused-exactly-when : (text : List ℕ) {out : List ℕ} {r : Answer} {after : List ℕ} → Answers (Undrawn text) out r after
+    → (why : Refusal) → (r ≡ Answer.Refused why) ↔ UndrawRefused text (length out) why
+undraw-refused-exactly-when text {out} {after = after} call why = (
+  λ e. undraw-told (call .right) (refused-withheld (subst (λ (x : Answer). Delivers (call .given) out x after) e (call .delivered)) .1),
+  λ h. withheld-refused (call .delivered) (told-undraw (call .right) h),
 )
 
 -- A model's text that is read and written back, and a built-in model, are refused exactly when 01 says.

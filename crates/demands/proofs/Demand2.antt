@@ -9,6 +9,7 @@ use mathlib.Core.Logic.{_↔_}
 use mathlib.Core.List.{List, [], _∷_}
 use lib.ListN.{length, take}
 use Rattle.ground.specs.Bytes.{at}
+use Rattle.answers.specs.declared.Refusal.{Refusal}
 use Rattle.answers.specs.declared.Answer.{Answer}
 use Rattle.answers.specs.declared.Verdict.{Verdict}
 use Rattle.answers.specs.Given.{gives, unlessRefused, Delivers, Answers}
@@ -28,6 +29,9 @@ use Rattle.machine.proofs.Theorems as machine
 use Rattle.layout.specs.Barred.{verdictOf}
 use Rattle.image.specs.Calls.{writtenBack, headerAs, Rewrites}
 use Rattle.image_runs.specs.Run.{runOver}
+use Rattle.texts.specs.NamePart.{NameFormed}
+use Rattle.drawing.specs.Calls.{drawn}
+use Rattle.drawing_reader.specs.Undrawing.{Undrawn}
 use Rattle.image_runs.proofs.AnyImage as any
 use Rattle.models.specs.declared.model.Model.{Model}
 use Rattle.models.specs.Text.{textOf}
@@ -42,9 +46,12 @@ use Rattle.demands.specs.Opened.{Opened, up, on}
 use Rattle.demands.specs.DirectRuns.{RunDone}
 use Rattle.demands.specs.Generated.{GenerateDone}
 use Rattle.demands.specs.Images.{entryAnswer, MinimalImage, stateAfter, SameFuture, Thread, fresh, block, ThreadDone, AsOneStream, endingIn}
+use Rattle.demands.specs.Drawings.{DrawnAs, DrawDone, UndrawDone, withNames, Renamed}
 use Rattle.demands.specs.Listings.{ListDone}
 use Rattle.demands.proofs.Accepted as accepted
 use Rattle.demands.proofs.Delivered.{done-gave, gave-done, gave-bytes}
+use Rattle.demands.proofs.Drawings.{drawing-given, image-given, undrawn-accepted, accepted-undrawn, drawing-done, undrawing-done}
+use Rattle.demands.proofs.Renaming as renaming
 use Rattle.demands.proofs.Generating as generating
 use Rattle.demands.proofs.Listing as listing
 use Rattle.demands.proofs.Reading.{reads-one}
@@ -147,6 +154,59 @@ image-written-back image accepted call l =
     let is : writtenBack image ≡ gives image 0 0 = ap (λ (v : Verdict). unlessRefused v (gives image 0 0)) accepted in
     let done = gave-done (call .delivered) is l in
     (done, gave-bytes (call .delivered) is l, call .header-told ∙ ap (headerAs image) done)
+
+-- An image that was drawn has its drawing in the buffer, and a drawing that was read back the image that it is the drawing of.
+pub draw-done : (image : List ℕ) → ((k : ℕ) → at image k < 256) → {out : List ℕ} {written fences state : ℕ} {after : List ℕ}
+    → Delivers (drawn image) out (Answer.Done written fences state) after → DrawDone image out written fences state after
+draw-done = drawing-done
+
+pub undraw-done : (text : List ℕ) {out : List ℕ} {written fences state : ℕ} {after : List ℕ}
+    → Answers (Undrawn text) out (Answer.Done written fences state) after → UndrawDone text out written fences state after
+undraw-done = undrawing-done
+
+-- From image to drawing to image: what was drawn is read back as the image's own bytes.
+pub drawn-back : (image : List ℕ) → ((k : ℕ) → at image k < 256) → {out : List ℕ} {written fences state : ℕ} {after : List ℕ}
+    → Delivers (drawn image) out (Answer.Done written fences state) after
+    → {back : List ℕ} {r : Answer} {back-after : List ℕ} → Answers (Undrawn (take written after)) back r back-after → length image ≤ length back
+    → (r ≡ Answer.Done (length image) 0 0) × (take (length image) back-after ≡ image)
+drawn-back image bytes drew call l =
+    let is = image-given (drawing-done image bytes drew .drawn) (call .right) in
+    (gave-done (call .delivered) is l, gave-bytes (call .delivered) is l)
+
+-- From drawing to image to drawing: an image that was read from a drawing is drawn as that text.
+pub undrawn-back : (text : List ℕ) {out : List ℕ} {written fences state : ℕ} {after : List ℕ}
+    → Answers (Undrawn text) out (Answer.Done written fences state) after
+    → {back : List ℕ} {r : Answer} {back-after : List ℕ} → Delivers (drawn (take written after)) back r back-after → length text ≤ length back
+    → (r ≡ Answer.Done (length text) 0 0) × (take (length text) back-after ≡ text)
+undrawn-back text read call l =
+    let is = drawing-given (undrawing-done text read .drawn) in
+    (gave-done call is l, gave-bytes call is l)
+
+-- A text is read back, if the image fits, exactly when it is the drawing of some image that reads.
+pub undraw-accepts-exactly : (text : List ℕ) {out : List ℕ} {r : Answer} {after : List ℕ} → Answers (Undrawn text) out r after
+    → ((why : Refusal) → r ≡ Answer.Refused why → why ≡ Refusal.BufferTooSmall) ↔ ((image : List ℕ) × DrawnAs image text)
+undraw-accepts-exactly text call = (undrawn-accepted call, λ (image, d). accepted-undrawn call d)
+
+-- A drawing has two names; where others are put in their place and nothing else is changed, it is read back as the image with these names, and
+-- nothing else is changed.
+pub drawing-names : {image text : List ℕ} → DrawnAs image text
+    → (upstream target rest : List ℕ) × NameFormed upstream × NameFormed target × (text ≡ withNames upstream target rest)
+drawing-names = renaming.drawing-names
+
+pub names-changed : {image : List ℕ} (upstream target upstream′ target′ rest : List ℕ) → NameFormed upstream → NameFormed target
+    → NameFormed upstream′ → NameFormed target′ → DrawnAs image (withNames upstream target rest)
+    → {out : List ℕ} {r : Answer} {after : List ℕ} → Answers (Undrawn (withNames upstream′ target′ rest)) out r after → length image ≤ length out
+    → (r ≡ Answer.Done (length image) 0 0) × Renamed upstream′ target′ (take (length image) after) image
+names-changed {image} upstream target upstream′ target′ rest fu ft fu′ ft′ d {out} {after = after} call l =
+    let new = renaming.renamed-drawn upstream target upstream′ target′ rest fu ft fu′ ft′ d in
+    let other : List ℕ = new .0 in
+    let size : length other ≡ length image = new .2 .size in
+    let is = image-given (new .1) (call .right) in
+    let fits : length other ≤ length out = subst (λ (n : ℕ). n ≤ length out) (sym size) l in (
+      gave-done (call .delivered) is fits ∙ ap (λ (n : ℕ). Answer.Done n 0 0) size,
+      subst (λ (x : List ℕ). Renamed upstream′ target′ x image)
+          (sym (gave-bytes (call .delivered) is fits) ∙ ap (λ (n : ℕ). take n after) size) (new .2),
+    )
 
 -- A listing's lines are the machine's, `out` is the direct run's output and `fences` its count.
 pub list-done : (input : List ℕ) {out : List ℕ} {written fences state : ℕ} {after : List ℕ}

@@ -11,6 +11,9 @@ pub mod Images
 pub mod Generating
 pub mod Listing
 pub mod Lists
+pub mod ImageBytes
+pub mod Drawings
+pub mod Renaming
 pub mod Demand1
 pub mod Demand2
 pub mod Demand3

@@ -1,6 +1,6 @@
 -- The sizes that include/shim.h calls never too small: a call with a buffer of that size or more is not refused with 7. What each call gives is at
 -- most so long, and no call comes to 7 before it looks at its buffer. Assumes nothing.
-use Prim.Native.Nat.{ℕ, zero, suc, _≤_}
+use Prim.Native.Nat.{ℕ, zero, suc, _<_, _≤_}
 use mathlib.Core.Path.{_≡_, refl, sym, ap, subst, _∙_}
 use mathlib.Core.Bool.{Bool, true, false, cond}
 use mathlib.Core.List.{List, [], _∷_}
@@ -9,6 +9,7 @@ use native.Mathlib.Omega.{arith}
 use borrow.Author.Tests.{ltb-false, leb-true}
 use lib.Dec.{leb, ltb}
 use lib.ListN.{length, getD}
+use Rattle.ground.specs.Bytes.{at}
 use Rattle.ground.specs.declared.Found.{Found}
 use Rattle.ground.proofs.Truths.{differ, true-false}
 use Rattle.answers.specs.declared.Refusal.{Refusal}
@@ -41,16 +42,23 @@ use Rattle.image.specs.Calls.{writtenBack, Rewrites}
 use Rattle.image_runs.specs.Run.{Walked, ended, stopped, walked, outcomeOf, streamLimit, runAs, runOver}
 use Rattle.image_runs.specs.declared.Stop.{Stop}
 use Rattle.image_runs.proofs.AnyImage.{longest-walk}
+use Rattle.image.specs.Image.{headerOf, rowsOf}
+use Rattle.drawing.specs.Drawing.{drawingOf}
+use Rattle.drawing.specs.Calls.{drawn}
+use Rattle.drawing_reader.specs.Undrawing as undrawing
+use Rattle.drawing_reader.specs.Undrawing.{Undrawn, undrawn}
 use Rattle.generation.specs.Generating.{ImageGiven}
 use Rattle.listing.specs.Shape.{Parts}
 use Rattle.listing.specs.Listed as listed
 use Rattle.listing.specs.Listed.{MachineListed, ModelsListed, PartsListed, ShapeListed, Listed}
 use Rattle.listing.proofs.Theorems.{longest-listing}
-use Rattle.demands.specs.Sizes.{textOut, runOut, imageRunOut, imageOut, listOut}
+use Rattle.demands.specs.Drawings.{DrawnAs}
+use Rattle.demands.specs.Sizes.{textOut, runOut, imageRunOut, imageOut, drawingOut, listOut}
 use Rattle.demands.specs.Opened.{up, on, OpeningRefused, no-way, upstream-refused, target-refused}
 use Rattle.demands.proofs.Accepted.{gives-ran}
 use Rattle.demands.proofs.Delivered.{never-too-small}
 use Rattle.demands.proofs.Direct.{DirectIs, puts-out, at-4, at-5, at-6, direct-is, is-direct}
+use Rattle.demands.proofs.Drawings.{drawn-short, given-drawing, given-image}
 use Rattle.demands.proofs.Opening.{opening-told}
 use Rattle.demands.proofs.Generating as generating
 use Rattle.demands.proofs.Generating.{GenerateIs, opens, generate-is, crowded, overfull, made}
@@ -190,6 +198,36 @@ image-back-out image call =
     short Verdict.Accepted a {bytes = bytes} e =
         let same : image ≡ bytes = cc in
         omega (arith, accepted-short image a, ap length same)
+
+-- an image that is read from a drawing has no more,
+pub undraw-out : (text : List ℕ) {out : List ℕ} {r : Answer} {after : List ℕ} → Answers (Undrawn text) out r after → imageOut ≤ length out
+    → r ≡ Answer.Refused Refusal.BufferTooSmall → ⊥
+undraw-out text call =
+    never-too-small (call .delivered) imageOut (λ e. none (call .right) e)
+    (λ bytes f s e. accepted-short bytes (given-image (call .right) e .0 .accepted))
+  where
+    none : {g : Given} → Undrawn text g → g ≡ refuses Refusal.BufferTooSmall → ⊥
+    none (undrawing.over l) e = differ (cc)
+    none (undrawing.departs l n h) e = differ (cc)
+    none (undrawn l m t) e = differ (cc)
+
+-- SHIM_DRAWING_OUT: 135,719 for a drawing.
+pub draw-out : (image : List ℕ) → ((k : ℕ) → at image k < 256) → {out : List ℕ} {r : Answer} {after : List ℕ} → Delivers (drawn image) out r after
+    → drawingOut ≤ length out → r ≡ Answer.Refused Refusal.BufferTooSmall → ⊥
+unfolding drawn
+draw-out image small call =
+    never-too-small call drawingOut (λ e. none (verdictOf image) refl e) (λ bytes f s e. drawn-short (given-drawing small e .0))
+  where
+    none : (v : Verdict) → verdictOf image ≡ v
+        → unlessRefused v (gives (drawingOf (headerOf image) (rowsOf image)) 0 0) ≡ refuses Refusal.BufferTooSmall → ⊥
+    none (Verdict.Refused why) a e =
+        let seven : why ≡ Refusal.BufferTooSmall = cc in
+        verdict-not-7 image (a ∙ ap Verdict.Refused seven)
+    none Verdict.Accepted a e = differ (cc)
+
+-- SHIM_DRAWING_LIMIT: every drawing is within the limit of what is read back.
+pub drawing-within : {image text : List ℕ} → DrawnAs image text → (length text ≤ drawingOut) × (drawingOut ≤ undrawing.limit)
+drawing-within d = (drawn-short d, omega arith)
 
 -- no listing comes to 7
 

@@ -7,4 +7,5 @@ pub mod Listings
 pub mod Border
 pub mod ImageCalls
 pub mod ModelCalls
+pub mod Drawings
 pub mod Sizes

@@ -18,6 +18,10 @@ imageRunOut = 8192
 abbrev pub imageOut : ℕ
 imageOut = limit
 
+-- SHIM_DRAWING_OUT: a drawing
+abbrev pub drawingOut : ℕ
+drawingOut = 135719
+
 -- SHIM_LIST_OUT: a listing
 abbrev pub listOut : ℕ
 listOut = 67261

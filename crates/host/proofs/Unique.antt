@@ -14,6 +14,9 @@ use Rattle.image.proofs.Unique.{rewrite-one}
 use Rattle.image_runs.specs.Run.{runOver}
 use Rattle.generation.specs.Generating.{ImageGiven}
 use Rattle.generation.proofs.Unique as generated
+use Rattle.drawing.specs.Calls.{drawn}
+use Rattle.drawing_reader.specs.Undrawing.{Undrawn}
+use Rattle.drawing_reader.proofs.Unique as undrawn
 use Rattle.listing.specs.Listed.{Listed}
 use Rattle.listing.proofs.Unique as listed
 use Rattle.host.specs.Border.{numberIn, Tells, TellsRelation}
@@ -40,11 +43,21 @@ pub image-run-one : (image : List ℕ) (start : ℕ) (stream : List ℕ) {out : 
     → (r ≡ r′) × (answer ≡ answer′) × (after ≡ after′)
 image-run-one image start stream = same-delivered (runOver image start stream)
 
+pub draw-one : (image : List ℕ) {out : List ℕ} {r r′ : ℕ} {answer answer′ after after′ : List ℕ}
+    → Tells (Delivers (drawn image) out) r answer after → Tells (Delivers (drawn image) out) r′ answer′ after′
+    → (r ≡ r′) × (answer ≡ answer′) × (after ≡ after′)
+draw-one image = same-delivered (drawn image)
+
 pub generate-one : (way : ℕ) (upstream target : List ℕ) {out : List ℕ} {r r′ : ℕ} {answer answer′ after after′ : List ℕ}
     → Tells (Answers (ImageGiven way upstream target) out) r answer after
     → Tells (Answers (ImageGiven way upstream target) out) r′ answer′ after′
     → (r ≡ r′) × (answer ≡ answer′) × (after ≡ after′)
 generate-one way upstream target a b = same-told (λ x y s t p q. generated.generate-one way upstream target p q) a b
+
+pub undraw-one : (text : List ℕ) {out : List ℕ} {r r′ : ℕ} {answer answer′ after after′ : List ℕ}
+    → Tells (Answers (Undrawn text) out) r answer after → Tells (Answers (Undrawn text) out) r′ answer′ after′
+    → (r ≡ r′) × (answer ≡ answer′) × (after ≡ after′)
+undraw-one text a b = same-told (λ x y s t p q. undrawn.undraw-one text _ p q) a b
 
 pub list-one : (input : List ℕ) {out : List ℕ} {r r′ : ℕ} {answer answer′ after after′ : List ℕ}
     → Tells (Answers (Listed input) out) r answer after → Tells (Answers (Listed input) out) r′ answer′ after′

@@ -10,6 +10,8 @@ ghost use Rattle.runs.specs.Call.{outcome};
 ghost use Rattle.image.specs.Calls.{Rewrites};
 ghost use Rattle.image_runs.specs.Run.{runOver};
 ghost use Rattle.generation.specs.Generating.{ImageGiven};
+ghost use Rattle.drawing.specs.Calls.{drawn};
+ghost use Rattle.drawing_reader.specs.Undrawing.{Undrawn};
 ghost use Rattle.listing.specs.Listed.{Listed};
 ghost use Rattle.host.specs.Border.{numberIn, relationOf, comparedAs, Tells, TellsRelation};
 use answers::Answer;
@@ -95,6 +97,22 @@ pub extern "C" fn shim_image_run<'a>(
         r (now (answer .exit)) (now (out .exit)) ⌝ }
 {
     tell(image_runs::run(image, start, stream, out), answer)
+}
+
+// The drawing of an image.
+#[no_mangle]
+pub extern "C" fn shim_draw(image: &[u8], out: &mut [u8], answer: &mut [u64; 5]) -> u64
+    ensures { λ r. ⌜ Tells (Delivers (drawn (now (image .entry))) (now (out .entry))) r (now (answer .exit)) (now (out .exit)) ⌝ }
+{
+    tell(drawing::draw(image, out), answer)
+}
+
+// The image that a text is the drawing of.
+#[no_mangle]
+pub extern "C" fn shim_undraw(text: &[u8], out: &mut [u8], answer: &mut [u64; 5]) -> u64
+    ensures { λ r. ⌜ Tells (Answers (Undrawn (now (text .entry))) (now (out .entry))) r (now (answer .exit)) (now (out .exit)) ⌝ }
+{
+    tell(drawing_reader::undraw(text, out), answer)
 }
 
 // The listing of an input: two models, a way and a stream.
