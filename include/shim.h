@@ -81,7 +81,7 @@ extern "C" {
 /*
  * Stack that a thread must have left when it calls shim_generate, shim_list or shim_draw. Every other call does with
  * SHIM_STACK_OTHERS. The proofs speak of a machine with endless stack, so these two numbers are not proved but measured, on
- * all three processors, and rounded up: shim_generate uses some 430,000 bytes, shim_list 513,000, shim_draw 147,000, no other
+ * all three processors, and rounded up: shim_generate uses some 431,000 bytes, shim_list 514,000, shim_draw 147,000, no other
  * more than 18,000.
  */
 #define SHIM_STACK_GENERATE 655360
@@ -90,7 +90,7 @@ extern "C" {
 /* Refusals, with their places. */
 #define SHIM_DONE 0
 #define SHIM_REFUSED_OVER_LIMIT 1       /* a text, stream, image or drawing is over its limit; 0 */
-#define SHIM_REFUSED_TEXT 2             /* a text or drawing is not of the form; length of the longest beginning that is */
+#define SHIM_REFUSED_TEXT 2             /* a text or drawing is not of the form; length of its longest beginning of one */
 #define SHIM_REFUSED_NAME_REPEATS 3     /* a fence name repeats; the first byte of the earliest that does */
 #define SHIM_REFUSED_NO_OPERATION 4     /* a byte is no operation; its index */
 #define SHIM_REFUSED_NO_SUCH_FENCE 5    /* the upstream model has no such fence; its index */

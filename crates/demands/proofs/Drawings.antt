@@ -20,16 +20,18 @@ use Rattle.image.proofs.Accepted.{canonical-read}
 use Rattle.image.proofs.Canonicals.{canonical-accepted, same-header, same-rows}
 use Rattle.image.proofs.Fronts.{at-listed}
 use Rattle.image.proofs.Theorems.{written-read}
-use Rattle.drawing.specs.Drawing.{drawingOf}
+use Rattle.image.proofs.ImageBytes.{image-bytes}
+use Rattle.drawing.specs.Drawing.{longest, drawingOf}
 use Rattle.drawing.specs.Calls.{drawn}
 use Rattle.drawing.proofs.Longest.{drawing-length}
 use Rattle.drawing.proofs.SameWords.{drawing-of-words}
+use Rattle.texts.proofs.Language.{longest-iff}
+use Rattle.drawing_reader.specs.Undrawing as undrawing
 use Rattle.drawing_reader.specs.Undrawing.{Undrawn, over, departs, undrawn}
 use Rattle.drawing_reader.proofs.Unique.{undrawn-one}
 use Rattle.demands.specs.Drawings as calls
 use Rattle.demands.specs.Drawings.{DrawnAs, DrawDone, UndrawDone, DrawRefused, UndrawRefused}
 use Rattle.demands.proofs.Delivered.{Withheld, refused, exceeds, refused-as, refused-withheld, withheld-refused, done-gave}
-use Rattle.demands.proofs.ImageBytes.{image-bytes}
 use Rattle.demands.proofs.Images.{verdict-told, told-verdict}
 
 -- the image of a machine of the layout has the machine's drawing
@@ -47,7 +49,7 @@ module _ {image text : List ℕ} (d : DrawnAs image text) where
   drawn-machine = canonical-read image (d .bytes) (accepted-faultless image (d .accepted))
 
   -- no drawing has more bytes
-  pub drawn-short : length text ≤ 135719
+  pub drawn-short : length text ≤ longest
   drawn-short = omega (arith, ap length (d .text-is), drawing-length (headerOf image) (rowsOf image) drawn-machine)
 
   -- what drawing it gives
@@ -56,6 +58,13 @@ module _ {image text : List ℕ} (d : DrawnAs image text) where
   drawing-given =
       ap (λ (v : Verdict). unlessRefused v (gives (drawingOf (headerOf image) (rowsOf image)) 0 0)) (d .accepted)
       ∙ ap (λ (t : List ℕ). gives t 0 0) (sym (d .text-is))
+
+-- the texts of the form are the drawings of images that read
+pub drawing-image : (text : List ℕ) → undrawing.Drawing text → calls.Drawing text
+drawing-image text (h, rows, m, e) = (imageOf h rows, machine-drawn h rows m e)
+
+pub image-drawing : (text : List ℕ) → calls.Drawing text → undrawing.Drawing text
+image-drawing text (image, d) = (headerOf image, rowsOf image, drawn-machine d, d .text-is)
 
 -- what drawing an image has given is its drawing
 pub given-drawing : {image text : List ℕ} {f s : ℕ} → ((k : ℕ) → at image k < 256) → drawn image ≡ gives text f s
@@ -117,7 +126,8 @@ undraw-told {text} {room} (over l) {why} (refused e) =
 undraw-told (over l) (exceeds e k) = differ (cc)
 undraw-told {text} {room} (departs {k = j} l n h) {why} (refused e) =
     let same : Refusal.NotOfTheForm j ≡ why = cc in
-    subst (UndrawRefused text room) same (calls.not-of-the-form j l n h)
+    subst (UndrawRefused text room) same (calls.not-of-the-form j l (λ x. n (image-drawing text x))
+    (longest-iff undrawing.Drawing calls.Drawing drawing-image image-drawing text j h))
 undraw-told (departs l n h) (exceeds e k) = differ (cc)
 undraw-told (undrawn l m t) (refused e) = differ (cc)
 undraw-told (undrawn {h = h} {rows = rows} l m t) (exceeds {bytes = bytes} e k) =
@@ -126,7 +136,9 @@ undraw-told (undrawn {h = h} {rows = rows} l m t) (exceeds {bytes = bytes} e k) 
 
 pub told-undraw : {text : List ℕ} {room : ℕ} {g : Given} → Undrawn text g → {why : Refusal} → UndrawRefused text room why → Withheld g room why
 told-undraw {text} u (calls.over-limit l) = refused (undrawn-one text u (over l))
-told-undraw {text} u (calls.not-of-the-form j l n h) = refused (undrawn-one text u (departs l n h))
+told-undraw {text} u (calls.not-of-the-form j l n h) =
+    refused (undrawn-one text u (departs l (λ x. n (drawing-image text x))
+    (longest-iff calls.Drawing undrawing.Drawing image-drawing drawing-image text j h)))
 told-undraw u (calls.too-small l d k) = exceeds (image-given d u) k
 
 -- a text is read back exactly where it is a drawing

@@ -11,7 +11,6 @@ pub mod Images
 pub mod Generating
 pub mod Listing
 pub mod Lists
-pub mod ImageBytes
 pub mod Drawings
 pub mod Renaming
 pub mod Demand1

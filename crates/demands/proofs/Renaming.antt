@@ -30,7 +30,7 @@ use Rattle.image.proofs.Theorems.{written-read}
 use Rattle.drawing.specs.Drawing.{wayWord, nodeLine, stateEdges, drawingOf}
 use Rattle.drawing_reader.specs.inner.Label.{field}
 use Rattle.drawing_reader.proofs.Fields.{field-formed, field-name, name-formed}
-use Rattle.demands.specs.Drawings.{DrawnAs, withNames, Renamed}
+use Rattle.demands.specs.Drawings.{Kept, DrawnAs, withNames, Renamed}
 use Rattle.demands.proofs.Drawings.{machine-drawn, drawn-machine}
 
 -- what stands behind the names: the rest of the label's line, and the lines below it
@@ -77,10 +77,6 @@ field-at n k l =
           ∙ getD-replicate {A = ℕ} (16 - length n) (k - length n) 0 0 (omega arith)
           ∙ sym (List·getD-eq-default n 0 (omega arith))
     ]
-
--- the bytes that no name is in
-abbrev Kept : ℕ → Type 0
-Kept k = (k < 7) ⊎ (((39 ≤ k) × (k < 510)) ⊎ (512 ≤ k))
 
 no-name : {k : ℕ} → Kept k → 7 ≤ k → k < 39 → ⊥
 no-name (inl l) p q = omega arith

@@ -42,7 +42,8 @@ use Rattle.image.specs.Calls.{writtenBack, Rewrites}
 use Rattle.image_runs.specs.Run.{Walked, ended, stopped, walked, outcomeOf, streamLimit, runAs, runOver}
 use Rattle.image_runs.specs.declared.Stop.{Stop}
 use Rattle.image_runs.proofs.AnyImage.{longest-walk}
-use Rattle.image.specs.Image.{headerOf, rowsOf}
+use Rattle.image.specs.Image.{imageOf, headerOf, rowsOf}
+use Rattle.drawing.proofs.Reached.{longestHeader, longestRows, longest-machine, longest-length}
 use Rattle.drawing.specs.Drawing.{drawingOf}
 use Rattle.drawing.specs.Calls.{drawn}
 use Rattle.drawing_reader.specs.Undrawing as undrawing
@@ -58,7 +59,7 @@ use Rattle.demands.specs.Opened.{up, on, OpeningRefused, no-way, upstrea
 use Rattle.demands.proofs.Accepted.{gives-ran}
 use Rattle.demands.proofs.Delivered.{never-too-small}
 use Rattle.demands.proofs.Direct.{DirectIs, puts-out, at-4, at-5, at-6, direct-is, is-direct}
-use Rattle.demands.proofs.Drawings.{drawn-short, given-drawing, given-image}
+use Rattle.demands.proofs.Drawings.{machine-drawn, drawn-short, given-drawing, given-image}
 use Rattle.demands.proofs.Opening.{opening-told}
 use Rattle.demands.proofs.Generating as generating
 use Rattle.demands.proofs.Generating.{GenerateIs, opens, generate-is, crowded, overfull, made}
@@ -228,6 +229,15 @@ draw-out image small call =
 -- SHIM_DRAWING_LIMIT: every drawing is within the limit of what is read back.
 pub drawing-within : {image text : List ℕ} → DrawnAs image text → (length text ≤ drawingOut) × (drawingOut ≤ undrawing.limit)
 drawing-within d = (drawn-short d, omega arith)
+
+-- and one has as many
+pub drawing-out-reached : (image : List ℕ) × (text : List ℕ) × DrawnAs image text × (length text ≡ drawingOut)
+drawing-out-reached = (
+  imageOf longestHeader longestRows,
+  drawingOf longestHeader longestRows,
+  machine-drawn longestHeader longestRows longest-machine refl,
+  longest-length,
+)
 
 -- no listing comes to 7
 

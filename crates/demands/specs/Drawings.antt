@@ -10,11 +10,10 @@ use Rattle.ground.specs.Bytes as ground
 use Rattle.ground.specs.Bytes.{at}
 use Rattle.answers.specs.declared.Refusal.{Refusal}
 use Rattle.answers.specs.declared.Verdict.{Verdict}
-use Rattle.texts.specs.Language.{Longest}
+use Rattle.texts.specs.Language.{Language, Longest}
 use Rattle.layout.specs.Barred.{verdictOf}
 use Rattle.image.specs.Image.{headerOf, rowsOf}
 use Rattle.drawing.specs.Drawing.{drawingOf}
-use Rattle.drawing_reader.specs.Undrawing.{Drawing}
 use Rattle.demands.specs.ImageCalls.{ImageRefused}
 
 -- the text is the drawing of an image that reads
@@ -22,6 +21,10 @@ pub record DrawnAs (image text : List ℕ) : Type 0 where
   pub bytes : (k : ℕ) → at image k < 256
   pub accepted : verdictOf image ≡ Verdict.Accepted
   pub text-is : text ≡ drawingOf (headerOf image) (rowsOf image)
+
+-- the form of a text that is read back: the drawing of some image that reads
+abbrev pub Drawing : Language
+Drawing text = (image : List ℕ) × DrawnAs image text
 
 -- an image was drawn: its drawing stands at the front of the buffer
 pub record DrawDone (image out : List ℕ) (written fences state : ℕ) (after : List ℕ) : Type 0 where
@@ -60,6 +63,10 @@ abbrev pub withNames : List ℕ → List ℕ → List ℕ → List ℕ
 withNames upstream target rest =
     ground.bytes "digraph shim {\nlabel=\"" ++ (upstream ++ (ground.bytes " " ++ (target ++ (ground.bytes " " ++ rest))))
 
+-- the bytes of an image that other names leave as they are: all but the names, at 7 to 38, and block 0's check, at 510 and 511
+abbrev pub Kept : ℕ → Type 0
+Kept k = (k < 7) ⊎ (((39 ≤ k) × (k < 510)) ⊎ (512 ≤ k))
+
 -- An image that has these names, and else is the other: the names stand at 7 to 22 and 23 to 38, zero-filled, block 0's check at 510 and 511, which
 -- is right, since the image reads.
 pub record Renamed (upstream target image other : List ℕ) : Type 0 where
@@ -67,5 +74,6 @@ pub record Renamed (upstream target image other : List ℕ) : Type 0 where
   pub size : length image ≡ length other
   pub upstream-is : (k : ℕ) → k < 16 → at image (7 + k) ≡ at upstream k
   pub target-is : (k : ℕ) → k < 16 → at image (23 + k) ≡ at target k
-  pub kept : (k : ℕ) → (k < 7) ⊎ (((39 ≤ k) × (k < 510)) ⊎ (512 ≤ k)) → at image k ≡ at other k
+  pub kept : (k : ℕ) → Kept k → at image k ≡ at other k
+  -- for readers, it follows from `kept`: what the two machines answer
   pub rows-kept : rowsOf image ≡ rowsOf other

@@ -21,7 +21,7 @@ use Rattle.printing.proofs.Names.{unfilled-short}
 use Rattle.printing.proofs.Turns.{length-turn, turns-short}
 use Rattle.image.specs.declared.machine.Header.{Header}
 use Rattle.image.specs.Image.{word, Canonical}
-use Rattle.drawing.specs.Drawing.{wayWord, labelLine, nodeLine, leadsTo, edgeLabel, edgeLine, stateEdges, drawingOf}
+use Rattle.drawing.specs.Drawing.{longest, wayWord, labelLine, nodeLine, leadsTo, edgeLabel, edgeLine, stateEdges, drawingOf}
 
 -- the digits of the first k numbers are n at most: one for each of ten, two for each of ninety, three for the rest
 data Digits (k n : ℕ) : Type 0 where
@@ -153,7 +153,7 @@ module _ (h : Header) (rows : List ℕ) (m : Canonical h rows) where
       )
 
   -- For readers: no drawing of a machine that has an image is longer.
-  pub drawing-length : length (drawingOf h rows) ≤ 135719
+  pub drawing-length : length (drawingOf h rows) ≤ longest
   drawing-length =
       let edges : List ℕ = inTurn (stateEdges (lettersWith (h .ups)) rows) (h .states) in
       let nodes : List ℕ = inTurn nodeLine (h .states) in

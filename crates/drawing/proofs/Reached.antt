@@ -19,7 +19,7 @@ use Rattle.printing.proofs.Turns.{length-turn}
 use Rattle.image.specs.declared.machine.Header.{Header}
 use Rattle.image.specs.Image.{listed, word, NameField, Canonical}
 use Rattle.image.proofs.Fronts.{length-listed, at-listed}
-use Rattle.drawing.specs.Drawing.{labelLine, nodeLine, leadsTo, edgeLine, stateEdges, drawingOf}
+use Rattle.drawing.specs.Drawing.{longest, labelLine, nodeLine, leadsTo, edgeLine, stateEdges, drawingOf}
 use Rattle.drawing.proofs.Longest.{nodes-length, edge-length, drawing-length}
 
 -- the machine
@@ -138,7 +138,7 @@ label-is : length (labelLine longestHeader) ≡ 57
 unfolding unfilled decimal digits
 label-is = refl
 
-pub longest-length : length (drawingOf longestHeader longestRows) ≡ 135719
+pub longest-length : length (drawingOf longestHeader longestRows) ≡ longest
 longest-length =
     let last : List ℕ = inTurn edges 255 ++ bytes "}\n" in
     omega (

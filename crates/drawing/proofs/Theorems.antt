@@ -14,13 +14,13 @@ use Rattle.layout.proofs.Faultless.{accepted-faultless}
 use Rattle.image.specs.Image.{imageOf, headerOf, rowsOf}
 use Rattle.image.proofs.Accepted.{canonical-read}
 use Rattle.image.proofs.Theorems.{read-written-accepted, read-written-header, read-written-rows}
-use Rattle.drawing.specs.Drawing.{drawingOf}
+use Rattle.drawing.specs.Drawing.{longest, drawingOf}
 use Rattle.drawing.proofs.Longest.{drawing-length}
 use Rattle.drawing.proofs.Reached.{longestHeader, longestRows, longest-rows, longest-machine, longest-length}
 
 -- The drawing of an image that is accepted has at most 135,719 bytes.
 pub longest-drawing : (image : List ℕ) → ((i : ℕ) → at image i < 256) → verdictOf image ≡ Verdict.Accepted
-    → length (drawingOf (headerOf image) (rowsOf image)) ≤ 135719
+    → length (drawingOf (headerOf image) (rowsOf image)) ≤ longest
 longest-drawing image bytes e = drawing-length (headerOf image) (rowsOf image) (canonical-read image bytes (accepted-faultless image e))
 
 -- So many has the drawing of this image,
@@ -31,7 +31,7 @@ longestImage = imageOf longestHeader longestRows
 pub longest-accepted : verdictOf longestImage ≡ Verdict.Accepted
 longest-accepted = read-written-accepted longestHeader longestRows longest-machine
 
-pub longest-reached : length (drawingOf (headerOf longestImage) (rowsOf longestImage)) ≡ 135719
+pub longest-reached : length (drawingOf (headerOf longestImage) (rowsOf longestImage)) ≡ longest
 longest-reached =
     ap length
     (ap₂ drawingOf

@@ -15,20 +15,20 @@ use image::reader;
 use operations::alphabet::STRIDE;
 use operations::alphabet::WORDS;
 
-// The bytes of the longest drawing.
-pub const LONGEST: usize = 135719;
+// Room for any drawing.
+const ROOM: usize = 135_719;
 
 // Writes the drawing of a machine. It owns the buffer that the drawing is put into, so that a refusal writes nothing.
 fn write_drawing(h: Header, rows: &[u16], out: &mut [u8]) -> Answer
     requires { ⌜ Canonical h (now rows) × (h .states * stride ≤ length (now rows)) ⌝ }
     ensures { λ r. ⌜ Delivers (gives (drawingOf h (now (rows .entry))) 0 0) (now (out .entry)) r (now (out .exit)) ⌝ }
 {
-    let mut text = [0u8; LONGEST];
+    let mut text = [0u8; ROOM];
     let n = print::put_drawing(&mut text, h, rows);
     answers::write_out(&text[..n], 0, 0, out)
 }
 
-// The drawing of an image, or nothing where it does not fit.
+// The drawing of an image, or nothing where the image is refused or its drawing does not fit.
 pub fn draw(image: &[u8], out: &mut [u8]) -> Answer
     ensures { λ r. ⌜ Delivers (drawn (now (image .entry))) (now (out .entry)) r (now (out .exit)) ⌝ }
 {

@@ -3,7 +3,7 @@
 ghost use mathlib.Core.Path.{_≡_};
 ghost use Rattle.texts.specs.Telling.{Finds, partTaken};
 ghost use Rattle.drawing_reader.specs.inner.Label.{WayPart, FromTargets, FromUps, FromWay, FromTarget, FromUpstream, LabelPart};
-ghost use Rattle.drawing_reader.specs.inner.Label.{nameFrom, field, placesTaken, labelTaken, Told};
+ghost use Rattle.drawing_reader.specs.inner.Label.{nameFrom, field, placesTaken, labelTaken, Fits};
 use texts::Part;
 use texts::Step;
 
@@ -150,7 +150,7 @@ fn name_field(text: &[u8], at: usize) -> [u8; 16]
 
 // The label at the front of a text.
 pub(crate) fn label(text: &[u8]) -> LabelRead
-    ensures { λ r. ⌜ Finds LabelPart (now (text .entry)) 0 (labelTaken r) × Told r ⌝ }
+    ensures { λ r. ⌜ Finds LabelPart (now (text .entry)) 0 (labelTaken r) × Fits r ⌝ }
 {
     match label_places(text) {
         PlacesRead::Stuck(place) => LabelRead {

@@ -5,7 +5,7 @@ ghost use lib.ListN.{length};
 ghost use Rattle.answers.specs.Given.{Answers};
 ghost use Rattle.operations.specs.Alphabet.{stride};
 ghost use Rattle.drawing_reader.specs.Undrawing.{Undrawn};
-ghost use Rattle.drawing_reader.specs.inner.Label.{LabelFormed, labelOf, labelFor, Fielded, Told};
+ghost use Rattle.drawing_reader.specs.inner.Label.{LabelFormed, labelOf, labelFor, Fielded, Fits};
 ghost use Rattle.drawing_reader.specs.inner.Edges.{Shaped};
 ghost use Rattle.drawing_reader.specs.inner.Whole.{shapeFor, FromEdges, FromNodes, WholePart, ReadsDrawn};
 
@@ -54,7 +54,7 @@ fn read_edges(text: &[u8], at: usize, header: Header, rows: &mut [u16]) -> Step
 
 // The header of a machine that has so many states, by its label.
 fn header_for(label: LabelRead, states: usize) -> Header
-    requires { ⌜ Told label × (states ≤ 255) ⌝ }
+    requires { ⌜ Fits label × (states ≤ 255) ⌝ }
     ensures { λ r. ⌜ (labelFor r ≡ labelOf label) × (r .states ≡ states) × Fielded (r .upstream) × Fielded (r .target) ⌝ }
 {
     let upstream = label.upstream;
@@ -71,7 +71,7 @@ fn header_for(label: LabelRead, states: usize) -> Header
 
 // From the nodes on.
 fn read_nodes(text: &[u8], at: usize, label: LabelRead, rows: &mut [u16]) -> DrawingRead
-    requires { ⌜ Told label × LabelFormed (labelOf label) × (255 * stride ≤ length (now rows)) ⌝ }
+    requires { ⌜ Fits label × LabelFormed (labelOf label) × (255 * stride ≤ length (now rows)) ⌝ }
     ensures { λ r. ⌜ ReadsDrawn (FromNodes (labelOf label)) (now (text .entry)) at (now (rows .entry)) (r .header) (r .step) (now (rows .exit))
         × Fielded (r .header .upstream) × Fielded (r .header .target) ⌝ }
 {
@@ -105,7 +105,7 @@ fn read(text: &[u8], rows: &mut [u16]) -> DrawingRead
     }
 }
 
-// The image of the machine that a text draws, or nothing where it draws none.
+// The image of the machine that a text draws, or nothing where it draws none or the image does not fit.
 pub fn undraw(text: &[u8], out: &mut [u8]) -> Answer
     ensures { λ r. ⌜ Answers (Undrawn (now (text .entry))) (now (out .entry)) r (now (out .exit)) ⌝ }
 {

@@ -23,7 +23,7 @@ fn more_nodes(text: &[u8], at: usize) -> Part
     let mut number = 1;
     while number < 255 {
         if ground::byte_at(text, here) == b'0' {
-            return nodes_end(text, here, number);
+            return Part::Next(here, number);
         }
         match follow_decimal(text, here, number, b";\n") {
             Step::Stuck(place) => return Part::Stuck(place),

@@ -7,6 +7,7 @@ pub mod Accepted
 pub mod NameFields
 pub mod Canonicals
 pub mod SameWords
+pub mod ImageBytes
 pub mod Theorems
 pub mod WrittenBack
 pub mod Unique

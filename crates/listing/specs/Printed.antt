@@ -24,7 +24,7 @@ namesLine upstream target way = upstream ++ (bytes " " ++ (target ++ (bytes " " 
 abbrev pub numberLine : List ℕ → ℕ → List ℕ
 numberLine word n = word ++ (decimal n ++ bytes "\n")
 
--- the mark of the fence byte, which is 254 where refused; and the next state
+-- the mark of the fence byte, which is 254 where refused, and there alone (`decoded`); and the next state
 abbrev pub answerMark : Answer ℕ ℕ → ℕ
 answerMark refused = fenceMark 254
 answerMark (taken fence next) = fenceMark fence

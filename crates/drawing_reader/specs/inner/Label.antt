@@ -97,7 +97,7 @@ abbrev pub Fielded : List ℕ → Type 0
 Fielded x = field (unfilled x) ≡ x
 
 -- what is held of a label fits a machine's header
-pub record Told (r : LabelRead) : Type 0 where
+pub record Fits (r : LabelRead) : Type 0 where
   pub way : r .way ≤ 1
   pub ups : r .ups ≤ 16
   pub targets : r .targets ≤ 16

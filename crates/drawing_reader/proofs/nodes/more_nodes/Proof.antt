@@ -11,7 +11,7 @@ use Rattle.texts.specs.Telling.{Word, Taken, took, stopped, Finds}
 use Rattle.drawing.specs.Drawing.{nodeLine}
 use Rattle.drawing_reader.specs.inner.Nodes.{NodesFrom}
 use Rattle.drawing_reader.proofs.Words.{word-found, word-stuck}
-use Rattle.drawing_reader.proofs.NodeLines.{node-word, nodes-over, nodes-more, nodes-stop, no-more}
+use Rattle.drawing_reader.proofs.NodeLines.{node-word, end-found, nodes-over, nodes-more, nodes-stop, no-more}
 use Rattle.drawing_reader.proofs.nodes.more_nodes.Statement.{statement}
 use Rattle.drawing_reader.proofs.nodes.more_nodes.Tie as tie
 
@@ -42,16 +42,13 @@ loop-holds c = (omega arith, omega arith, (λ r h. h))
 byte-at-requires : tie.Need-byte-at-requires Inv-loop μ-loop
 byte-at-requires c κs = search needs
 
-nodes-end-requires : tie.Need-nodes-end-requires Inv-loop μ-loop
-nodes-end-requires c κs = search needs
-
 returns : tie.Need-returns Inv-loop μ-loop
 returns c =
-    let byte = c .before .before in
+    let byte = c .before in
     let l = byte .before .before .loop in
-    let a = byte .before .before .before .before .args in
-    l .inv .2 _ (nodes-over (now (a .text)) (l .here) (l .number) (255 - l .number) (l .inv .0)
-    (sym (byte .byte-at .ensures) ∙ c .before .if1 .taken) (c .nodes-end .ensures))
+    let t = now (byte .before .before .before .before .args .text) in
+    let zero = sym (byte .byte-at .ensures) ∙ c .if1 .taken in
+    l .inv .2 _ (nodes-over t (l .here) (l .number) (255 - l .number) (l .inv .0) zero (end-found t (l .here) (l .number) zero))
 
 slice-aggregate-follow-decimal : tie.Need-slice-aggregate-follow-decimal Inv-loop μ-loop
 slice-aggregate-follow-decimal c = search needs
@@ -97,14 +94,14 @@ loop-again c =
           (λ is. test .if1 .left (byte .byte-at .ensures ∙ is)) word h)),
     )
 
-nodes-end-requires-2 : tie.Need-nodes-end-requires-2 Inv-loop μ-loop
-nodes-end-requires-2 c κs = search needs
+nodes-end-requires : tie.Need-nodes-end-requires Inv-loop μ-loop
+nodes-end-requires c κs = search needs
 
 returns-3 : tie.Need-returns-3 Inv-loop μ-loop
 returns-3 c =
     let l = c .before .before .loop in
     let t = now (c .before .before .before .before .args .text) in
-    l .inv .2 _ (no-more t (l .here) (l .number) (255 - l .number) (omega arith) (c .nodes-end2 .ensures))
+    l .inv .2 _ (no-more t (l .here) (l .number) (255 - l .number) (omega arith) (c .nodes-end .ensures))
 
 pub more-nodes-spec : {M : Type 1} → statement M
 more-nodes-spec =
@@ -114,7 +111,6 @@ more-nodes-spec =
     μ-loop
     loop-holds
     byte-at-requires
-    nodes-end-requires
     returns
     slice-aggregate-follow-decimal
     follow-decimal-requires
@@ -124,5 +120,5 @@ more-nodes-spec =
     add-number
     loop-less
     loop-again
-    nodes-end-requires-2
+    nodes-end-requires
     returns-3)
