@@ -17,4 +17,5 @@ pub mod Demand1
 pub mod Demand2
 pub mod Demand3
 pub mod Border
+pub mod Reached
 pub mod Sizes

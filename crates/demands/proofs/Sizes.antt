@@ -43,7 +43,6 @@ use Rattle.image_runs.specs.Run.{Walked, ended, stopped, walked, outcomeOf, str
 use Rattle.image_runs.specs.declared.Stop.{Stop}
 use Rattle.image_runs.proofs.AnyImage.{longest-walk}
 use Rattle.image.specs.Image.{imageOf, headerOf, rowsOf}
-use Rattle.drawing.proofs.Reached.{longestHeader, longestRows, longest-machine, longest-length}
 use Rattle.drawing.specs.Drawing.{drawingOf}
 use Rattle.drawing.specs.Calls.{drawn}
 use Rattle.drawing_reader.specs.Undrawing as undrawing
@@ -60,6 +59,7 @@ use Rattle.demands.proofs.Accepted.{gives-ran}
 use Rattle.demands.proofs.Delivered.{never-too-small}
 use Rattle.demands.proofs.Direct.{DirectIs, puts-out, at-4, at-5, at-6, direct-is, is-direct}
 use Rattle.demands.proofs.Drawings.{machine-drawn, drawn-short, given-drawing, given-image}
+use Rattle.demands.proofs.Reached.{longestHeader, longestRows, longest-machine, longest-length}
 use Rattle.demands.proofs.Opening.{opening-told}
 use Rattle.demands.proofs.Generating as generating
 use Rattle.demands.proofs.Generating.{GenerateIs, opens, generate-is, crowded, overfull, made}
