@@ -133,13 +133,19 @@ pub record NameField (field : List ℕ) : Type 0 where
   pub bytes : (k : ℕ) → k < name → nameByte (at field k) ≡ true
   pub zeros : (k : ℕ) → name ≤ k → k < 16 → at field k ≡ 0
 
--- "for l, L, s, S a fence byte (a number, FF none, FE refused) with the next state (0 where refused)"
+-- "for l, L, s, S a fence byte (a number, FF none, FE refused) with the next state (0 where refused)", of so many states and target fences
+abbrev pub AccessWordIn : ℕ → ℕ → ℕ → Type 0
+AccessWordIn states targets w = ((w / 256 ≡ 254) × (w % 256 ≡ 0)) ⊎ (((w / 256 < targets) ⊎ (w / 256 ≡ 255)) × (w % 256 < states))
+
 abbrev pub AccessWord : Header → ℕ → Type 0
-AccessWord h w = ((w / 256 ≡ 254) × (w % 256 ≡ 0)) ⊎ (((w / 256 < h .targets) ⊎ (w / 256 ≡ 255)) × (w % 256 < h .states))
+AccessWord h = AccessWordIn (h .states) (h .targets)
 
 -- an upstream fence's word has FF for a fence byte
+abbrev pub FenceWordIn : ℕ → ℕ → Type 0
+FenceWordIn states w = (w / 256 ≡ 255) × (w % 256 < states)
+
 abbrev pub FenceWord : Header → ℕ → Type 0
-FenceWord h w = (w / 256 ≡ 255) × (w % 256 < h .states)
+FenceWord h = FenceWordIn (h .states)
 
 -- a machine of the layout
 pub record Canonical (h : Header) (rows : List ℕ) : Type 0 where

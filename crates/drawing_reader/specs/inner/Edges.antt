@@ -17,7 +17,7 @@ use Rattle.printing.specs.Turns.{inTurn}
 use Rattle.texts.specs.declared.Step.{Step}
 use Rattle.texts.specs.Language.{Telling}
 use Rattle.texts.specs.Telling.{Then, Through, Items, Either, Word, Numbered, Taken, took, stopped, Finds}
-use Rattle.image.specs.Image.{word}
+use Rattle.image.specs.Image.{word, AccessWordIn, FenceWordIn}
 use Rattle.drawing.specs.Drawing.{edgeLine}
 use Rattle.drawing_reader.specs.declared.edges.Shape.{Shape}
 
@@ -83,8 +83,8 @@ RowsPart sh = Items (RowPart sh) (sh .states)
 
 -- the words that an edge may tell, as an image has them
 abbrev pub WordOf : Bool → Shape → ℕ → Type 0
-WordOf true sh w = ((w / 256 ≡ 254) × (w % 256 ≡ 0)) ⊎ (((w / 256 < sh .targets) ⊎ (w / 256 ≡ 255)) × (w % 256 < sh .states))
-WordOf false sh w = (w / 256 ≡ 255) × (w % 256 < sh .states)
+WordOf true sh = AccessWordIn (sh .states) (sh .targets)
+WordOf false sh = FenceWordIn (sh .states)
 
 abbrev pub EdgeWord : Shape → ℕ → ℕ → Type 0
 EdgeWord sh letter w = WordOf (ltb letter accessLetters) sh w
