@@ -1,12 +1,13 @@
 /*
- * Writes the drawing of a machine to standard output, for tools/draw.
+ * Writes a machine to standard output, for tools/draw: its drawing, or its image.
  *
- *     draw FILE                      an input as shimlist takes it (its stream does not matter), an image or a drawing
- *     draw UPSTREAM TARGET WAY       two models, each a built-in name or number or a file with a text; WAY is full or sparing
- *     draw image ...                 the same, but the machine's image is written
+ *     draw drawing|image FILE                     an input of shimlist, an image or a drawing
+ *     draw drawing|image UPSTREAM TARGET WAY      two models, each a built-in name or number or a file with a text; WAY is
+ *                                                 full or sparing
  *
  * A name that two built-in models have means the first of them upstream and the last as the target, so that TSO TSO is x86's
- * promise on the target TSO. What the library refuses is told on standard error, with the refusal's number and place.
+ * promise on the target TSO. What is wrong is told on standard error, in tools/draw's name, and what the library refuses with
+ * the refusal's number and place.
  */
 #include "shim.h"
 
@@ -32,12 +33,17 @@ static const char *const refusals[] = {
     [SHIM_REFUSED_STATES] = "its machine would have too many states",
     [SHIM_REFUSED_BLOCK] = "that block is missing or broken",
     [SHIM_REFUSED_IMAGE_VALUE] = "that byte may not stand there",
-    [SHIM_REFUSED_OUT_OF_RANGE] = "there is no such built-in model",
 };
 
 static void stop(const char *what, const char *why)
 {
-    fprintf(stderr, "draw: %s: %s\n", what, why);
+    fprintf(stderr, "tools/draw: %s: %s\n", what, why);
+    exit(1);
+}
+
+static void refuse(const char *what, uint64_t number, uint64_t place, const char *why)
+{
+    fprintf(stderr, "tools/draw: %s: refused %d at %d: %s\n", what, (int)number, (int)place, why);
     exit(1);
 }
 
@@ -49,19 +55,19 @@ static void accepted(const char *what, uint64_t number)
         return;
     if (number < sizeof refusals / sizeof *refusals && refusals[number] != NULL)
         why = refusals[number];
-    fprintf(stderr, "draw: %s: refused %d at %d: %s\n", what, (int)number, (int)answer.place, why);
-    exit(1);
+    refuse(what, number, answer.place, why);
 }
 
-static void read_file(const char *path, struct bytes *into, const char *otherwise)
+/* Can the file be read? */
+static int read_file(const char *path, struct bytes *into)
 {
     FILE *file = fopen(path, "rb");
     if (file == NULL)
-        stop(path, otherwise);
+        return 0;
     into->length = fread(into->at, 1, sizeof into->at, file);
-    if (ferror(file))
-        stop(path, otherwise);
+    int whole = !ferror(file);
     fclose(file);
+    return whole;
 }
 
 static int begins(const uint8_t *at, size_t length, const char *word)
@@ -84,20 +90,32 @@ static int is_named(uint64_t number, const char *name)
     return sscanf((const char *)text.at, "model %16s", own) == 1 && strcmp(own, name) == 0;
 }
 
-/* A model by its name, its number or its file; which of two that share a name, `last` says. */
-static void model(const char *word, int last, struct bytes *into)
+/* The number of the built-in model that a word means, SHIM_BUILTINS if none; which of two that share a name, `last` says. */
+static uint64_t number_of(const char *word, int last)
 {
     char *end;
     unsigned long number = strtoul(word, &end, 10);
-    int found = word[0] >= '0' && word[0] <= '9' && *end == '\0';
-    for (unsigned long i = 0; !found && i < SHIM_BUILTINS; i++) {
-        number = last ? SHIM_BUILTINS - 1 - i : i;
-        found = is_named(number, word);
+    if (word[0] >= '0' && word[0] <= '9' && *end == '\0') {
+        if (number >= SHIM_BUILTINS)
+            stop(word, "built-in models are 0 to 15");
+        return number;
     }
-    if (found)
+    for (uint64_t i = 0; i < SHIM_BUILTINS; i++) {
+        uint64_t candidate = last ? SHIM_BUILTINS - 1 - i : i;
+        if (is_named(candidate, word))
+            return candidate;
+    }
+    return SHIM_BUILTINS;
+}
+
+/* A model by its name, its number or its file. */
+static void model(const char *word, int last, struct bytes *into, const char *otherwise)
+{
+    uint64_t number = number_of(word, last);
+    if (number < SHIM_BUILTINS)
         built_in(number, into);
-    else
-        read_file(word, into, "is no built-in model, and no file that can be read");
+    else if (!read_file(word, into))
+        stop(word, otherwise);
 }
 
 static void generate(const char *what, uint64_t way)
@@ -119,39 +137,57 @@ static size_t text_length(const uint8_t *at, size_t length)
     return 0;
 }
 
-/* Two texts, then the way; the stream that follows has no part in the machine. */
+/* Is this a line of `run `, then a stream, with nothing after its line feed? The stream itself is not looked at. */
+static int is_run_line(const uint8_t *at, size_t length)
+{
+    return begins(at, length, "run ") && memchr(at, '\n', length) == at + length - 1;
+}
+
+/*
+ * The machine of an input, which must have shimlist's length and shape: two texts, the way's line and the run's. shimlist
+ * refuses others so too. But it also refuses a stream that the shim cannot take, and here the stream has no part.
+ */
 static void generate_input(const char *path)
 {
+    static const char shape[] = "it is not two models' texts, a line `way full` or `way sparing`, and a line of `run ` and a stream";
     const uint8_t *at = given.at;
     size_t left = given.length;
+    if (left > SHIM_LIST_INPUT_LIMIT)
+        refuse(path, SHIM_REFUSED_OVER_LIMIT, 0, refusals[SHIM_REFUSED_OVER_LIMIT]);
     for (int i = 0; i < 2; i++) {
         size_t length = text_length(at, left);
         if (length == 0)
-            stop(path, "has not two models' texts, each to a line `end`");
+            refuse(path, SHIM_REFUSED_TEXT, 0, shape);
         memcpy(texts[i].at, at, length);
         texts[i].length = length;
         at += length;
         left -= length;
     }
-    if (begins(at, left, "way full\n"))
-        generate(path, SHIM_FULL);
-    else if (begins(at, left, "way sparing\n"))
-        generate(path, SHIM_SPARING);
-    else
-        stop(path, "has no line `way full` or `way sparing` after its models");
+    int full = begins(at, left, "way full\n");
+    size_t line = strlen(full ? "way full\n" : "way sparing\n");
+    if ((!full && !begins(at, left, "way sparing\n")) || !is_run_line(at + line, left - line))
+        refuse(path, SHIM_REFUSED_TEXT, 0, shape);
+    generate(path, full ? SHIM_FULL : SHIM_SPARING);
 }
 
-/* What a file is shows at its beginning: an image begins with its first block's number, which is 0. */
+/* An image begins with its first block's number, which is 0. One that is broken there still has whole blocks. */
+static int seems_image(void)
+{
+    return (given.length >= 2 && given.at[0] == 0 && given.at[1] == 0) || (given.length > 0 && given.length % 512 == 0);
+}
+
+/* What a file is shows at its beginning. */
 static void machine_of_file(const char *path)
 {
-    read_file(path, &given, "cannot be read");
+    if (!read_file(path, &given))
+        stop(path, number_of(path, 0) < SHIM_BUILTINS ? "is a model; the second one, the target, is missing" : "cannot be read");
     if (begins(given.at, given.length, "digraph")) {
         accepted(path, shim_undraw(given.at, given.length, image.at, sizeof image.at, &answer));
         image.length = (size_t)answer.written;
-    } else if (given.length >= 2 && given.at[0] == 0 && given.at[1] == 0) {
-        image = given;
     } else if (begins(given.at, given.length, "model ")) {
         generate_input(path);
+    } else if (seems_image()) {
+        image = given;
     } else {
         stop(path, "is no input of shimlist, no image and no drawing");
     }
@@ -162,27 +198,26 @@ static void machine_of_models(char **words)
     int full = strcmp(words[2], "full") == 0;
     if (!full && strcmp(words[2], "sparing") != 0)
         stop(words[2], "is no way; the ways are full and sparing");
-    model(words[0], 0, &texts[0]);
-    model(words[1], 1, &texts[1]);
+    model(words[0], 0, &texts[0], "is no built-in model and no file that can be read");
+    model(words[1], 1, &texts[1],
+          "is no built-in model and no file that can be read; an output ends in .svg, .png, .dot or .image");
     generate("the two models", full ? SHIM_FULL : SHIM_SPARING);
 }
 
 int main(int count, char **words)
 {
-    const struct bytes *shown = &drawing;
-    if (count > 1 && strcmp(words[1], "image") == 0) {
-        shown = &image;
-        count--;
-        words++;
-    }
-    if (count == 2)
-        machine_of_file(words[1]);
-    else if (count == 4)
-        machine_of_models(words + 1);
+    int as_image = count > 1 && strcmp(words[1], "image") == 0;
+    int as_drawing = count > 1 && strcmp(words[1], "drawing") == 0;
+    if ((!as_image && !as_drawing) || (count != 3 && count != 5))
+        stop("usage", "draw drawing|image FILE, or draw drawing|image UPSTREAM TARGET full|sparing");
+    if (count == 3)
+        machine_of_file(words[2]);
     else
-        stop("usage", "draw [image] FILE, or draw [image] UPSTREAM TARGET full|sparing");
-    accepted(words[1], shim_draw(image.at, image.length, drawing.at, sizeof drawing.at, &answer));
+        machine_of_models(words + 2);
+    /* An image is drawn even where it is to be written, since that tries it. */
+    accepted(words[2], shim_draw(image.at, image.length, drawing.at, sizeof drawing.at, &answer));
     drawing.length = (size_t)answer.written;
+    const struct bytes *shown = as_image ? &image : &drawing;
     if (fwrite(shown->at, 1, shown->length, stdout) != shown->length || fflush(stdout) != 0)
         stop("standard output", "cannot be written");
     return 0;

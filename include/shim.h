@@ -82,7 +82,7 @@ extern "C" {
  * Stack that a thread must have left when it calls shim_generate, shim_list or shim_draw. Every other call does with
  * SHIM_STACK_OTHERS. The proofs speak of a machine with endless stack, so these two numbers are not proved but measured, on
  * all three processors, and rounded up: shim_generate uses some 431,000 bytes, shim_list 514,000, shim_draw 147,000, no other
- * more than 18,000.
+ * more than 19,000.
  */
 #define SHIM_STACK_GENERATE 655360
 #define SHIM_STACK_OTHERS 65536

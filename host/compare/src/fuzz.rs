@@ -205,14 +205,16 @@ fn checked(renew: u64, image_bytes: &[u8]) -> Vec<u8> {
 
 const ROOM: usize = 20_000;
 
-/// Two texts, a way and a stream that have something to do.
-const RUNS: [(u64, u64, u64, &[u8]); 6] = [
+/// Two texts, a way and a stream that have something to do; the last machine has
+/// accesses that it refuses.
+const RUNS: [(u64, u64, u64, &[u8]); 7] = [
     (1, 15, 1, b"ssl0l"),
     (7, 14, 0, b"sl0l1sLS"),
     (1, 13, 0, b"llsls0lL"),
     (0, 9, 1, b"slSLls"),
     (6, 14, 0, b"s0l1sSL0l"),
     (5, 8, 1, b"lslsLS"),
+    (1, 5, 1, b"LsSl0L"),
 ];
 
 fn image_of(upstream: u64, target: u64, way: u64) -> Vec<u8> {

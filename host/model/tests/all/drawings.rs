@@ -401,17 +401,31 @@ fn every_beginning_that_is_told_can_be_completed() {
     }
 }
 
+/// May this byte of the drawing of TSO on ARM be that value? Nothing else reads but
+/// other names, more target fences, another next state of the three, and before an
+/// access the target's one fence or none.
+fn may_be(at: usize, value: u8) -> bool {
+    let (edge, within) = (at.saturating_sub(50) / 22, at.saturating_sub(50) % 22);
+    match at {
+        22..=24 | 26..=28 => is_name_byte(value),
+        37 => (b'1'..=b'9').contains(&value),
+        55..380 if within == 5 => (b'0'..=b'2').contains(&value),
+        55..380 if within == 17 => value == b'-' || (value == b'0' && edge % 5 < 4),
+        _ => value == TSO_ON_ARM.as_bytes()[at],
+    }
+}
+
 /// A fault is at the changed byte, or after it where later bytes hang on it.
 #[test]
 fn every_byte_changed() {
     for at in 0..TSO_ON_ARM.len() {
         for value in 0..=255 {
             let mut text = TSO_ON_ARM.as_bytes().to_vec();
-            let own = std::mem::replace(&mut text[at], value);
-            let name = [22, 23, 24, 26, 27, 28].contains(&at) && is_name_byte(value);
-            match drawing::read(&text) {
-                Ok(machine) => assert_eq!(drawing::write(&machine), text),
-                Err(refusal) => assert!(!name && own != value && refusal.place() >= at as u64),
+            text[at] = value;
+            let read = drawing::read(&text);
+            assert_eq!(read.is_ok(), may_be(at, value), "{value} at {at}");
+            if let Err(refusal) = read {
+                assert!(refusal.place() >= at as u64);
             }
         }
     }
