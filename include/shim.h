@@ -90,7 +90,7 @@ extern "C" {
 /* Refusals, with their places. */
 #define SHIM_DONE 0
 #define SHIM_REFUSED_OVER_LIMIT 1       /* a text, stream, image or drawing is over its limit; 0 */
-#define SHIM_REFUSED_TEXT 2             /* a text or drawing is not of the form; length of its longest beginning of one */
+#define SHIM_REFUSED_TEXT 2             /* a text or drawing is not of the form; how much of it can begin one that is */
 #define SHIM_REFUSED_NAME_REPEATS 3     /* a fence name repeats; the first byte of the earliest that does */
 #define SHIM_REFUSED_NO_OPERATION 4     /* a byte is no operation; its index */
 #define SHIM_REFUSED_NO_SUCH_FENCE 5    /* the upstream model has no such fence; its index */

@@ -46,7 +46,7 @@ use Rattle.demands.specs.Opened.{Opened, up, on}
 use Rattle.demands.specs.DirectRuns.{RunDone}
 use Rattle.demands.specs.Generated.{GenerateDone}
 use Rattle.demands.specs.Images.{entryAnswer, MinimalImage, stateAfter, SameFuture, Thread, fresh, block, ThreadDone, AsOneStream, endingIn}
-use Rattle.demands.specs.Drawings.{DrawnAs, DrawDone, UndrawDone, withNames, Renamed}
+use Rattle.demands.specs.Drawings.{DrawnAs, Drawing, DrawDone, UndrawDone, withNames, Renamed}
 use Rattle.demands.specs.Listings.{ListDone}
 use Rattle.demands.proofs.Accepted as accepted
 use Rattle.demands.proofs.Delivered.{done-gave, gave-done, gave-bytes}
@@ -184,7 +184,7 @@ undrawn-back text read call l =
 
 -- A text is read back, if the image fits, exactly when it is the drawing of some image that reads.
 pub undraw-accepts-exactly : (text : List ℕ) {out : List ℕ} {r : Answer} {after : List ℕ} → Answers (Undrawn text) out r after
-    → ((why : Refusal) → r ≡ Answer.Refused why → why ≡ Refusal.BufferTooSmall) ↔ ((image : List ℕ) × DrawnAs image text)
+    → ((why : Refusal) → r ≡ Answer.Refused why → why ≡ Refusal.BufferTooSmall) ↔ Drawing text
 undraw-accepts-exactly text call = (undrawn-accepted call, λ (image, d). accepted-undrawn call d)
 
 -- A drawing has two names; where others are put in their place and nothing else is changed, it is read back as the image with these names, and

@@ -18,7 +18,7 @@ use Rattle.printing.specs.Turns.{inTurn}
 use Rattle.printing.proofs.Turns.{length-turn}
 use Rattle.image.specs.declared.machine.Header.{Header}
 use Rattle.image.specs.Image.{listed, word, NameField, Canonical}
-use Rattle.image.proofs.Fronts.{length-listed, at-listed}
+use Rattle.image.proofs.Fronts.{at-listed}
 use Rattle.drawing.specs.Drawing.{longest, labelLine, nodeLine, leadsTo, edgeLine, stateEdges, drawingOf}
 use Rattle.drawing.proofs.Longest.{nodes-length, edge-length, drawing-length}
 
@@ -34,10 +34,6 @@ wordAt a = cond (ltb a accessLetters) (254 * 256) (255 * 256 + 254)
 
 pub longestRows : List ℕ
 longestRows = listed (255 * stride) (λ (j : ℕ). wordAt (j % stride))
-
-pub longest-rows : length longestRows ≡ 255 * stride
-unfolding longestRows
-longest-rows = length-listed _ _
 
 word-is : (s a : ℕ) → s < 255 → a < stride → word longestRows s a ≡ wordAt a
 unfolding longestRows
