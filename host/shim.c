@@ -1,8 +1,9 @@
 /*
- * The command `shim`: each subcommand makes one call of the library, from files and pipes. docs/shim.1 is its manual page.
+ * The command `shim`: each subcommand makes one call of the library, from files and pipes. docs/shim.1 is its manual
+ * page.
  *
- * A subcommand reads its inputs, makes its call and writes what the call wrote. Only if the call is refused does it look which
- * input it was: the inputs are judged one by one, in the order of the call's refusals (command/refusals.c).
+ * A subcommand reads its inputs, makes its call and writes what the call wrote. Only if the call is refused does it
+ * look which input it was: they are judged one by one, in the order of the call's refusals (command/refusals.c).
  */
 #include "command/command.h"
 
@@ -16,20 +17,18 @@
 #error "shim.h does not say its version"
 #endif
 
-/* What the options say. */
-static struct {
-    const char *way, *start, *output;
-    int quiet;
-} given;
-
-enum { WAY = 1, START = 2, OUTPUT = 4, QUIET = 8 };
+/* The options beside --help and --version, the letters that getopt knows them by, and what was given behind each. */
+enum { WAY, START, OUTPUT, QUIET, OPTIONS };
+static const char letters[] = "wsoq";
+static const char *const written[OPTIONS] = {"--way", "--start", "-o", "-q"};
+static const char *given[OPTIONS];
 
 struct subcommand {
     const char *name, *words, *does;
     void (*make)(char **operands, int count);
-    int options;     /* those that it takes */
-    int least, most; /* operands */
-    int stream;      /* is the last operand, which may be missing, a stream? */
+    const char *options; /* the letters of those that it takes */
+    int least, most;     /* operands */
+    int stream;          /* is the last operand, which may be missing, a stream? */
 };
 
 static const struct subcommand *current;
@@ -40,31 +39,31 @@ static uint64_t header[4];
 
 static uint64_t way_given(void)
 {
-    if (given.way == NULL)
+    if (given[WAY] == NULL)
         misuse("--way full or --way sparing is missing");
-    int full = strcmp(given.way, "full") == 0;
-    if (!full && strcmp(given.way, "sparing") != 0)
-        misuse("%s: there is no such way", given.way);
+    int full = strcmp(given[WAY], "full") == 0;
+    if (!full && strcmp(given[WAY], "sparing") != 0)
+        misuse("%s: there is no such way", given[WAY]);
     return full ? SHIM_FULL : SHIM_SPARING;
 }
 
 static void no_image_to_terminal(void)
 {
-    if (is_terminal(given.output))
+    if (is_terminal(given[OUTPUT]))
         misuse("an image is not for a terminal; name a file with -o");
 }
 
 static void write_answered(const uint8_t *out)
 {
-    write_output(given.output, out, (size_t)answer.written);
+    write_output(given[OUTPUT], out, (size_t)answer.written);
 }
 
 /* An output stream is a line; `out` has room for its line feed. The numbers follow on standard output. */
 static void write_stream(uint8_t *out, int with_state)
 {
     out[answer.written] = '\n';
-    write_output(given.output, out, (size_t)answer.written + 1);
-    if (given.quiet)
+    write_output(given[OUTPUT], out, (size_t)answer.written + 1);
+    if (given[QUIET] != NULL)
         return;
     char numbers[64];
     int length = snprintf(numbers, sizeof numbers, "fences %d\n", (int)answer.fences);
@@ -76,7 +75,8 @@ static void write_stream(uint8_t *out, int with_state)
 /* The parts of an input of shimlist, which is judged as shim_list judges it. */
 static struct parts parts_of(const struct input *input)
 {
-    static const struct shim_answer too_long = {SHIM_REFUSED_OVER_LIMIT, 0, 0, 0, 0}, no_input = {SHIM_REFUSED_TEXT, 0, 0, 0, 0};
+    static const struct shim_answer too_long = {SHIM_REFUSED_OVER_LIMIT, 0, 0, 0, 0};
+    static const struct shim_answer no_input = {SHIM_REFUSED_TEXT, 0, 0, 0, 0};
     struct parts parts;
     size_t place;
     if (input->length > SHIM_LIST_INPUT_LIMIT)
@@ -135,8 +135,8 @@ static void make_run(char **operands, int count)
     uint64_t way = way_given();
     struct input upstream = model_input(operands[0], 0), target = model_input(operands[1], 1);
     struct input stream = stream_input(count > 2 ? operands[2] : NULL);
-    if (shim_run(way, upstream.at, upstream.length, target.at, target.length, stream.at, stream.length, out, SHIM_RUN_OUT,
-                 &answer) != SHIM_DONE) {
+    if (shim_run(way, upstream.at, upstream.length, target.at, target.length, stream.at, stream.length, out,
+                 SHIM_RUN_OUT, &answer) != SHIM_DONE) {
         judge_model(&upstream);
         judge_model(&target);
         struct sides sides = {way, fences_of(&upstream), fences_of(&target)};
@@ -148,7 +148,8 @@ static void make_run(char **operands, int count)
 static void generate(const char *name, uint64_t way, const struct input *upstream, const struct input *target)
 {
     static uint8_t out[SHIM_IMAGE_LIMIT];
-    if (shim_generate(way, upstream->at, upstream->length, target->at, target->length, out, sizeof out, &answer) != SHIM_DONE) {
+    if (shim_generate(way, upstream->at, upstream->length, target->at, target->length, out, sizeof out, &answer) !=
+        SHIM_DONE) {
         judge_model(upstream);
         judge_model(target);
         refuse_machine(name, &answer);
@@ -158,7 +159,7 @@ static void generate(const char *name, uint64_t way, const struct input *upstrea
 
 static void make_generate(char **operands, int count)
 {
-    if (count == 1 && given.way != NULL)
+    if (count == 1 && given[WAY] != NULL)
         misuse("an input has its own way");
     no_image_to_terminal();
     if (count == 1) {
@@ -207,16 +208,17 @@ static void make_image_run(char **operands, int count)
 {
     static uint8_t out[SHIM_IMAGE_RUN_OUT + 1];
     uint64_t start;
-    if (given.start == NULL)
+    if (given[START] == NULL)
         misuse("--start with a state is missing");
-    if (!is_number(given.start, &start))
-        misuse("%s: is no number", given.start);
+    if (!is_number(given[START], &start))
+        misuse("%s: is no number", given[START]);
     struct input image = file_input(operands[0], SHIM_IMAGE_LIMIT);
     struct input stream = stream_input(count > 1 ? operands[1] : NULL);
-    if (shim_image_run(image.at, image.length, start, stream.at, stream.length, out, SHIM_IMAGE_RUN_OUT, &answer) != SHIM_DONE) {
+    if (shim_image_run(image.at, image.length, start, stream.at, stream.length, out, SHIM_IMAGE_RUN_OUT, &answer) !=
+        SHIM_DONE) {
         judge_image(&image, header);
         if (answer.number == SHIM_REFUSED_OUT_OF_RANGE)
-            refuse_number(image.name, "state", given.start, header[1] - 1, &answer);
+            refuse_number(image.name, "state", given[START], header[1] - 1, &answer);
         struct sides sides = {header[0], header[2], header[3]};
         refuse_stream(&stream, &sides, &answer);
     }
@@ -262,21 +264,21 @@ static void make_undraw(char **operands, int count)
 
 /* ---- the words of the command */
 
-#define WAYS "--way full|sparing "
+#define RUN "--way full|sparing [-q] [-o FILE] UPSTREAM TARGET [STREAM]"
+#define GENERATE "--way full|sparing [-o FILE] UPSTREAM TARGET\n       shim generate [-o FILE] INPUT"
+#define IMAGE_RUN "--start STATE [-q] [-o FILE] IMAGE [STREAM]"
 
 static const struct subcommand subcommands[] = {
-    {"builtin", "[-o FILE] NUMBER", "the text of a built-in model", make_builtin, OUTPUT, 1, 1, 0},
-    {"model", "[-o FILE] MODEL", "a model, read and written back", make_model, OUTPUT, 1, 1, 0},
-    {"compare", "MODEL MODEL", "which of two models is stronger", make_compare, 0, 2, 2, 0},
-    {"run", WAYS "[-q] [-o FILE] UPSTREAM TARGET [STREAM]", "a stream with its fences", make_run, WAY | OUTPUT | QUIET, 2, 3, 1},
-    {"generate", WAYS "[-o FILE] UPSTREAM TARGET\n       shim generate [-o FILE] INPUT", "the image of the smallest machine",
-     make_generate, WAY | OUTPUT, 1, 2, 0},
-    {"image", "IMAGE", "an image's header, size and checks", make_image, 0, 1, 1, 0},
-    {"image-run", "--start STATE [-q] [-o FILE] IMAGE [STREAM]", "a stream's run over an image", make_image_run,
-     START | OUTPUT | QUIET, 1, 2, 1},
-    {"list", "[-o FILE] INPUT", "the machine and the run of an input", make_list, OUTPUT, 1, 1, 0},
-    {"draw", "[-o FILE] IMAGE", "an image's drawing, for Graphviz", make_draw, OUTPUT, 1, 1, 0},
-    {"undraw", "[-o FILE] DRAWING", "a drawing's image", make_undraw, OUTPUT, 1, 1, 0},
+    {"builtin", "[-o FILE] NUMBER", "the text of a built-in model", make_builtin, "o", 1, 1, 0},
+    {"model", "[-o FILE] MODEL", "a model's text, read and written back", make_model, "o", 1, 1, 0},
+    {"compare", "MODEL MODEL", "which of two models is stronger", make_compare, "", 2, 2, 0},
+    {"run", RUN, "a stream with its fences", make_run, "woq", 2, 3, 1},
+    {"generate", GENERATE, "the image of the smallest machine", make_generate, "wo", 1, 2, 0},
+    {"image", "IMAGE", "an image's header, size and checks", make_image, "", 1, 1, 0},
+    {"image-run", IMAGE_RUN, "a stream's run over an image", make_image_run, "soq", 1, 2, 1},
+    {"list", "[-o FILE] INPUT", "the machine and the run of an input", make_list, "o", 1, 1, 0},
+    {"draw", "[-o FILE] IMAGE", "an image's drawing, for Graphviz", make_draw, "o", 1, 1, 0},
+    {"undraw", "[-o FILE] DRAWING", "a drawing's image", make_undraw, "o", 1, 1, 0},
 };
 
 enum { SUBCOMMANDS = sizeof subcommands / sizeof *subcommands };
@@ -304,46 +306,53 @@ void misuse(const char *format, ...)
     exit(TROUBLE);
 }
 
-static void tell_help(void)
+ENDS static void tell_help(void)
 {
     tell_usage(stdout);
-    if (current != NULL)
-        printf("writes %s\n", current->does);
-    printf("A model is a file, a built-in model's number (0 to 15) or builtin:NAME, as builtin:TSO; a stream is the stream itself\n"
-           "or @FILE; - is standard input. The manual page shim(1) says more.\n");
+    printf("\n");
+    for (int i = 0; i < SUBCOMMANDS; i++)
+        if (current == NULL || current == &subcommands[i])
+            printf("  %-9s  %s\n", subcommands[i].name, subcommands[i].does);
+    printf("\nA model is a file, a built-in model's number (0 to 15) or builtin:NAME, as builtin:TSO. A stream is the\n"
+           "stream itself or @FILE. - is standard input. The manual page shim(1) says more.\n");
     end_done();
 }
 
-static void tell_version(void)
+ENDS static void tell_version(void)
 {
     printf("shim %s\n", SHIM_VERSION);
     end_done();
 }
 
-static void take_option(int option, const char *word)
+/* `word` is the one that was looked at last; of several letters behind one dash, optopt is the one that is not known. */
+static void take_option(int letter, const char *word)
 {
-    static const struct { int letter, option; } known[] = {{'w', WAY}, {'s', START}, {'o', OUTPUT}, {'q', QUIET}};
-    for (size_t i = 0; i < sizeof known / sizeof *known; i++)
-        if (known[i].letter == option && (current->options & known[i].option) == 0)
-            misuse("%s has no option %s", current->name, word);
-    switch (option) {
-    case 'h': tell_help(); break;
-    case 'v': tell_version(); break;
-    case 'w': given.way = optarg; break;
-    case 's': given.start = optarg; break;
-    case 'o': given.output = optarg; break;
-    case 'q': given.quiet = 1; break;
-    case ':': misuse("%s wants a word behind it", word); break;
-    default: misuse("%s: there is no such option", word);
-    }
+    if (letter == 'h')
+        tell_help();
+    if (letter == 'v')
+        tell_version();
+    if (letter == ':')
+        misuse("%s wants a word behind it", written[strchr(letters, optopt) - letters]);
+    if (letter == '?' && strncmp(word, "--", 2) == 0)
+        misuse("%s: there is no such option", word);
+    if (letter == '?')
+        misuse("-%c: there is no such option", optopt);
+    int option = (int)(strchr(letters, letter) - letters);
+    if (strchr(current->options, letter) == NULL)
+        misuse("%s has no option %s", current->name, written[option]);
+    given[option] = option == QUIET ? "" : optarg;
 }
 
 static void take_options(int count, char **words)
 {
     static const struct option names[] = {
-        {"way", required_argument, NULL, 'w'}, {"start", required_argument, NULL, 's'},
-        {"output", required_argument, NULL, 'o'}, {"quiet", no_argument, NULL, 'q'},
-        {"help", no_argument, NULL, 'h'}, {"version", no_argument, NULL, 'v'}, {NULL, 0, NULL, 0},
+        {"way", required_argument, NULL, 'w'},
+        {"start", required_argument, NULL, 's'},
+        {"output", required_argument, NULL, 'o'},
+        {"quiet", no_argument, NULL, 'q'},
+        {"help", no_argument, NULL, 'h'},
+        {"version", no_argument, NULL, 'v'},
+        {NULL, 0, NULL, 0},
     };
     int option;
     opterr = 0;
@@ -383,5 +392,4 @@ int main(int count, char **words)
     count_operands(operands, count - 1 - optind);
     current->make(operands, count - 1 - optind);
     end_done();
-    return DONE;
 }

@@ -1,6 +1,6 @@
 /*
- * What the parts of the command `shim` share: inputs (inputs.c), outputs (outputs.c), refusals (refusals.c), places in a text (places.c) and the ways of
- * ending without success.
+ * What the parts of the command `shim` share: inputs (inputs.c), outputs (outputs.c), places in a text (places.c) and
+ * refusals (refusals.c).
  */
 #ifndef COMMAND_H
 #define COMMAND_H
@@ -10,9 +10,12 @@
 /* The exit statuses: done, an input was refused, the command was misused or a file cannot be read or written. */
 enum { DONE, REFUSED, TROUBLE };
 
+/* Of a function that ends the command. */
+#define ENDS __attribute__((noreturn))
+
 /*
- * An input or a part of one: the name that a person knows it by, its bytes, and the whole file, whose lines and columns are
- * told.
+ * An input or a part of one: the name that a person knows it by, its bytes, and the whole file, whose lines and columns
+ * are told.
  */
 struct input {
     const char *name;
@@ -25,7 +28,7 @@ struct input {
 /* ---- shim.c */
 
 /* Ends the command with a sentence and the usage of its subcommand. */
-void misuse(const char *format, ...);
+ENDS void misuse(const char *format, ...);
 
 /* ---- inputs.c */
 
@@ -62,10 +65,10 @@ int is_terminal(const char *path);
 void write_output(const char *path, const void *at, size_t length);
 
 /* Ends the command with success, if all that went to standard output has arrived there. */
-void end_done(void);
+ENDS void end_done(void);
 
 /* Ends the command with the system's words for what just went wrong with a file, and a hint behind them. */
-void cannot(const char *name, const char *done, const char *hint);
+ENDS void cannot(const char *name, const char *done, const char *hint);
 
 /* ---- places.c: where in a text something is, and what could stand there */
 
@@ -81,7 +84,7 @@ int show_byte(uint8_t byte);
 /* A call that reads a text, into a buffer of its own. */
 typedef void reader(const uint8_t *text, size_t length, struct shim_answer *answer);
 
-/* Prints what is wrong at the place where a text stops being of the form: what could stand there, as some accepted text has it. */
+/* Prints what could stand where a text stops being of the form: what some text that is accepted has there. */
 void tell_expected(reader *read, const struct input *text, size_t place);
 
 /* ---- refusals.c: what the library refused, as a sentence; then the command ends */
@@ -103,9 +106,10 @@ void judge_image(const struct input *image, uint64_t header[4]);
 void refuse_stream(const struct input *stream, const struct sides *sides, const struct shim_answer *answer);
 
 /* These end the command. `word` is a number as it was typed, `last` the highest there is. */
-void refuse_number(const char *name, const char *what, const char *word, uint64_t last, const struct shim_answer *answer);
-void refuse_input_length(const struct input *input, const struct shim_answer *answer);
-void refuse_shape(const struct input *input, const char *missing, size_t place, const struct shim_answer *answer);
-void refuse_machine(const char *name, const struct shim_answer *answer);
+ENDS void refuse_number(const char *name, const char *what, const char *word, uint64_t last,
+                        const struct shim_answer *answer);
+ENDS void refuse_input_length(const struct input *input, const struct shim_answer *answer);
+ENDS void refuse_shape(const struct input *input, const char *missing, size_t place, const struct shim_answer *answer);
+ENDS void refuse_machine(const char *name, const struct shim_answer *answer);
 
 #endif

@@ -5,7 +5,7 @@
 #include <stdlib.h>
 #include <string.h>
 
-/* A region of its own for each input, of exactly its length, so that a tool that watches memory sees every step beyond it. */
+/* A region for each input, of exactly its length, so that a tool that watches memory sees every step beyond it. */
 static uint8_t *reserved(void *former, size_t length)
 {
     uint8_t *region = realloc(former, length > 0 ? length : 1);

@@ -95,8 +95,8 @@ static int is_filled(int file, mode_t mode, const void *at, size_t length)
 }
 
 /*
- * A file beside the old one takes its place when it is whole. No signal that can be held back comes between, and a limit of
- * the file's size is told like any other fault.
+ * A file beside the old one takes its place when it is whole. No signal that can be held back comes between, and a limit
+ * of the file's size is told like any other fault.
  */
 static void replace(const char *path, const void *at, size_t length)
 {

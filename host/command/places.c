@@ -2,7 +2,6 @@
 #include "command.h"
 
 #include <stdio.h>
-#include <stdlib.h>
 #include <string.h>
 
 /* As much of a line is shown, and as much of that before the place. */
@@ -159,9 +158,7 @@ static void tell_followers(reader *read, uint8_t *text, size_t length, struct fo
 
 void tell_expected(reader *read, const struct input *text, size_t place)
 {
-    uint8_t *begun = malloc(place + LONGEST_WORD + 1);
-    if (begun == NULL)
-        cannot("memory", "reserved", "");
+    static uint8_t begun[SHIM_DRAWING_LIMIT + LONGEST_WORD + 1]; /* a drawing is the longest text */
     memcpy(begun, text->at, place);
     struct followers next = followers_of(read, begun, place);
     int ends = place == text->length, letters = taken(&next, "AZaz"), digits = taken(&next, "09");
@@ -175,5 +172,4 @@ void tell_expected(reader *read, const struct input *text, size_t place)
     }
     if (!ends && text->at[place] == '\r')
         fprintf(stderr, "; lines end in a line feed alone");
-    free(begun);
 }

@@ -5,7 +5,7 @@
 #include <stdlib.h>
 #include <string.h>
 
-/* A sentence begins with the input that it is about, if it is about one, and ends with the refusal's number and place. */
+/* A sentence begins with the input that it is about, if there is one, and ends with the refusal's number and place. */
 static void begin(const char *name)
 {
     fprintf(stderr, "shim: %s%s", name == NULL ? "" : name, name == NULL ? "" : ": ");
@@ -17,7 +17,7 @@ static void end(const struct shim_answer *answer)
 }
 
 /* The end of a sentence about a place in a text. */
-static void end_at(const struct input *text, size_t place, const struct shim_answer *answer)
+ENDS static void end_at(const struct input *text, size_t place, const struct shim_answer *answer)
 {
     end(answer);
     show_place(text, place);
@@ -30,7 +30,7 @@ static void begin_at(const struct input *text, size_t place)
     tell_place(text, place);
 }
 
-static void refuse(const char *name, const char *sentence, const struct shim_answer *answer)
+ENDS static void refuse(const char *name, const char *sentence, const struct shim_answer *answer)
 {
     begin(name);
     fprintf(stderr, "%s", sentence);
@@ -38,7 +38,8 @@ static void refuse(const char *name, const char *sentence, const struct shim_ans
     exit(REFUSED);
 }
 
-static void refuse_length(const char *name, const char *what, int most, const char *unit, const struct shim_answer *answer)
+ENDS static void refuse_length(const char *name, const char *what, int most, const char *unit,
+                               const struct shim_answer *answer)
 {
     begin(name);
     fprintf(stderr, "too long: %s has at most %d %s", what, most, unit);
@@ -58,14 +59,14 @@ static void read_drawing(const uint8_t *text, size_t length, struct shim_answer 
     shim_undraw(text, length, out, sizeof out, answer);
 }
 
-static void refuse_form(reader *read, const struct input *text, const struct shim_answer *answer)
+ENDS static void refuse_form(reader *read, const struct input *text, const struct shim_answer *answer)
 {
     begin_at(text, answer->place);
     tell_expected(read, text, answer->place);
     end_at(text, answer->place, answer);
 }
 
-static void refuse_name(const struct input *text, const struct shim_answer *answer)
+ENDS static void refuse_name(const struct input *text, const struct shim_answer *answer)
 {
     size_t place = (size_t)answer->place;
     const uint8_t *space = memchr(text->at + place, ' ', text->length - place);
@@ -101,7 +102,7 @@ void judge_drawing(const struct input *drawing)
 
 enum { BLOCK = 512, STATES_AT = 4, STATES_OF_A_BLOCK = 21, STATE = 24 };
 
-static void refuse_block(const struct input *image, const struct shim_answer *answer)
+ENDS static void refuse_block(const struct input *image, const struct shim_answer *answer)
 {
     size_t block = (size_t)answer->place, start = block * BLOCK;
     begin(image->name);
@@ -132,7 +133,7 @@ static const char *header_field(size_t byte)
     return byte < 23 ? "the upstream model's name" : byte < 39 ? "the target model's name" : "zeros behind the header";
 }
 
-/* What a state has at a byte of its own: fence and next state for each access, then the next states for upstream fences. */
+/* What a state has at its own byte: fence and next state for each access, then next states for upstream fences. */
 static void tell_state_field(size_t state, size_t byte)
 {
     if (byte < 8)
@@ -141,7 +142,7 @@ static void tell_state_field(size_t state, size_t byte)
         fprintf(stderr, "state %zu's next state for upstream fence %zu", state, byte - 8);
 }
 
-static void refuse_value(const struct input *image, const struct shim_answer *answer)
+ENDS static void refuse_value(const struct input *image, const struct shim_answer *answer)
 {
     size_t place = (size_t)answer->place, block = place / BLOCK, byte = place % BLOCK;
     size_t state = (block - 1) * STATES_OF_A_BLOCK + (byte - 2) / STATE;
@@ -203,9 +204,9 @@ static void tell_no_such_fence(uint8_t byte, const struct sides *sides)
 static void tell_no_fence_will_do(const struct sides *sides)
 {
     fprintf(stderr, "no fence will do before this access: %s",
-            sides->target_fences == 0     ? "the target has none"
-            : sides->way == SHIM_FULL     ? "the full way takes the target's last fence alone"
-                                          : "none of the target's is strong enough");
+            sides->target_fences == 0 ? "the target has none"
+            : sides->way == SHIM_FULL ? "the full way takes the target's last fence alone"
+                                      : "none of the target's is strong enough");
 }
 
 void refuse_stream(const struct input *stream, const struct sides *sides, const struct shim_answer *answer)
@@ -238,7 +239,8 @@ void refuse_input_length(const struct input *input, const struct shim_answer *an
     refuse_length(input->name, "an input", SHIM_LIST_INPUT_LIMIT, "bytes", answer);
 }
 
-void refuse_number(const char *name, const char *what, const char *word, uint64_t last, const struct shim_answer *answer)
+void refuse_number(const char *name, const char *what, const char *word, uint64_t last,
+                   const struct shim_answer *answer)
 {
     begin(name);
     fprintf(stderr, "there is no %s %s; the last is %d", what, word, (int)last);
