@@ -5,6 +5,7 @@
  * A subcommand reads its inputs, makes its call and writes what the call wrote. Only if the call is refused does it
  * look which input it was: they are judged one by one, in the order of the call's refusals (command/refusals.c).
  */
+#define _XOPEN_SOURCE 700
 #include "command/command.h"
 
 #include <getopt.h>
@@ -12,6 +13,7 @@
 #include <stdio.h>
 #include <stdlib.h>
 #include <string.h>
+#include <sys/resource.h>
 
 #ifndef SHIM_VERSION
 #error "shim.h does not say its version"
@@ -374,8 +376,21 @@ static void count_operands(char **operands, int count)
         misuse("standard input can be only one of the inputs");
 }
 
+/* Some calls want more stack than a small limit leaves, and would end by a signal. */
+static void need_stack(void)
+{
+    enum { NEEDED = SHIM_STACK_GENERATE + SHIM_STACK_OTHERS };
+    struct rlimit stack;
+    if (getrlimit(RLIMIT_STACK, &stack) != 0 || stack.rlim_cur >= NEEDED)
+        return;
+    stack.rlim_cur = NEEDED;
+    if (setrlimit(RLIMIT_STACK, &stack) != 0)
+        cannot("the stack", "made as large as some calls want", "; see ulimit -s");
+}
+
 int main(int count, char **words)
 {
+    need_stack();
     if (count < 2)
         misuse("a subcommand is missing");
     for (int i = 0; i < SUBCOMMANDS; i++)
