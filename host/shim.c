@@ -108,8 +108,10 @@ static void make_model(char **operands, int count)
     static uint8_t out[SHIM_TEXT_OUT];
     struct input text = model_input(operands[0], 0);
     (void)count;
-    if (shim_model(text.at, text.length, out, sizeof out, &answer) != SHIM_DONE)
+    if (shim_model(text.at, text.length, out, sizeof out, &answer) != SHIM_DONE) {
         judge_model(&text);
+        refuse_rest(text.name, &answer);
+    }
     write_answered(out);
 }
 
@@ -127,6 +129,7 @@ static void make_compare(char **operands, int count)
     if (shim_compare(first.at, first.length, second.at, second.length, &relation, &answer) != SHIM_DONE) {
         judge_model(&first);
         judge_model(&second);
+        refuse_rest(NULL, &answer);
     }
     write_output(NULL, relations[relation], strlen(relations[relation]));
 }
@@ -143,6 +146,7 @@ static void make_run(char **operands, int count)
         judge_model(&target);
         struct sides sides = {way, fences_of(&upstream), fences_of(&target)};
         refuse_stream(&stream, &sides, &answer);
+        refuse_rest(stream.name, &answer);
     }
     write_stream(out, 0);
 }
@@ -154,7 +158,7 @@ static void generate(const char *name, uint64_t way, const struct input *upstrea
         SHIM_DONE) {
         judge_model(upstream);
         judge_model(target);
-        refuse_machine(name, &answer);
+        refuse_rest(name, &answer);
     }
     write_answered(out);
 }
@@ -223,6 +227,7 @@ static void make_image_run(char **operands, int count)
             refuse_number(image.name, "state", given[START], header[1] - 1, &answer);
         struct sides sides = {header[0], header[2], header[3]};
         refuse_stream(&stream, &sides, &answer);
+        refuse_rest(stream.name, &answer);
     }
     write_stream(out, 1);
 }
@@ -238,7 +243,7 @@ static void make_list(char **operands, int count)
         judge_model(&parts.target);
         struct sides sides = {parts.way, fences_of(&parts.upstream), fences_of(&parts.target)};
         refuse_stream(&parts.stream, &sides, &answer);
-        refuse_machine(input.name, &answer);
+        refuse_rest(input.name, &answer);
     }
     write_answered(out);
 }
@@ -248,8 +253,10 @@ static void make_draw(char **operands, int count)
     static uint8_t out[SHIM_DRAWING_OUT];
     struct input image = file_input(operands[0], SHIM_IMAGE_LIMIT);
     (void)count;
-    if (shim_draw(image.at, image.length, out, sizeof out, &answer) != SHIM_DONE)
+    if (shim_draw(image.at, image.length, out, sizeof out, &answer) != SHIM_DONE) {
         judge_image(&image, header);
+        refuse_rest(image.name, &answer);
+    }
     write_answered(out);
 }
 
@@ -259,8 +266,10 @@ static void make_undraw(char **operands, int count)
     (void)count;
     no_image_to_terminal();
     struct input drawing = file_input(operands[0], SHIM_DRAWING_LIMIT);
-    if (shim_undraw(drawing.at, drawing.length, out, sizeof out, &answer) != SHIM_DONE)
+    if (shim_undraw(drawing.at, drawing.length, out, sizeof out, &answer) != SHIM_DONE) {
         judge_drawing(&drawing);
+        refuse_rest(drawing.name, &answer);
+    }
     write_answered(out);
 }
 

@@ -105,11 +105,14 @@ void judge_image(const struct input *image, uint64_t header[4]);
 /* This returns where the answer is none of a stream's refusals. */
 void refuse_stream(const struct input *stream, const struct sides *sides, const struct shim_answer *answer);
 
-/* These end the command. `word` is a number as it was typed, `last` the highest there is. */
+/*
+ * These end the command. `word` is a number as it was typed, `last` the highest there is. What is left for refuse_rest is
+ * a machine that is too large, or 7, against which every buffer of the command is large enough.
+ */
 ENDS void refuse_number(const char *name, const char *what, const char *word, uint64_t last,
                         const struct shim_answer *answer);
 ENDS void refuse_input_length(const struct input *input, const struct shim_answer *answer);
 ENDS void refuse_shape(const struct input *input, const char *missing, size_t place, const struct shim_answer *answer);
-ENDS void refuse_machine(const char *name, const struct shim_answer *answer);
+ENDS void refuse_rest(const char *name, const struct shim_answer *answer);
 
 #endif

@@ -171,6 +171,8 @@ void judge_image(const struct input *image, uint64_t header[4])
         refuse_block(image, &answer);
     if (answer.number == SHIM_REFUSED_IMAGE_VALUE)
         refuse_value(image, &answer);
+    if (answer.number != SHIM_DONE)
+        refuse_rest(image->name, &answer);
 }
 
 /* ---- streams, and what is about no text */
@@ -248,7 +250,7 @@ void refuse_number(const char *name, const char *what, const char *word, uint64_
     exit(REFUSED);
 }
 
-void refuse_machine(const char *name, const struct shim_answer *answer)
+void refuse_rest(const char *name, const struct shim_answer *answer)
 {
     if (answer->number == SHIM_REFUSED_SITUATIONS)
         refuse(name, "the shim reaches more than 4096 situations", answer);
