@@ -48,6 +48,8 @@
 #ifndef SHIM_H
 #define SHIM_H
 
+#define SHIM_VERSION "0.1.0"
+
 #include <stddef.h>
 #include <stdint.h>
 

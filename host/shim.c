@@ -1,0 +1,419 @@
+/*
+ * The command `shim`: each subcommand makes one call of the library, from files and pipes. docs/shim.1 is its manual
+ * page.
+ *
+ * A subcommand reads its inputs, makes its call and writes what the call wrote. Only if the call is refused does it
+ * look which input it was: they are judged one by one, in the order of the call's refusals (command/refusals.c).
+ */
+#define _XOPEN_SOURCE 700
+#include "command/command.h"
+
+#include <getopt.h>
+#include <stdarg.h>
+#include <stdio.h>
+#include <stdlib.h>
+#include <string.h>
+#include <sys/resource.h>
+
+#ifndef SHIM_VERSION
+#error "shim.h does not say its version"
+#endif
+
+/* The options beside --help and --version, the letters that getopt knows them by, and what was given behind each. */
+enum { WAY, START, OUTPUT, QUIET, OPTIONS };
+static const char letters[] = "wsoq";
+static const char *const written[OPTIONS] = {"--way", "--start", "-o", "-q"};
+static const char *given[OPTIONS];
+
+struct subcommand {
+    const char *name, *words, *does;
+    void (*make)(char **operands, int count);
+    const char *options; /* the letters of those that it takes */
+    int least, most;     /* operands */
+    int stream;          /* is the last operand, which may be missing, a stream? */
+};
+
+static const struct subcommand *current;
+static struct shim_answer answer;
+static uint64_t header[4];
+
+/* ---- what several subcommands do */
+
+static uint64_t way_given(void)
+{
+    if (given[WAY] == NULL)
+        misuse("--way full or --way sparing is missing");
+    int full = strcmp(given[WAY], "full") == 0;
+    if (!full && strcmp(given[WAY], "sparing") != 0)
+        misuse("%s: there is no such way", given[WAY]);
+    return full ? SHIM_FULL : SHIM_SPARING;
+}
+
+static void no_image_to_terminal(void)
+{
+    if (is_terminal(given[OUTPUT]))
+        misuse("an image is not for a terminal; name a file with -o");
+}
+
+static void write_answered(const uint8_t *out)
+{
+    write_output(given[OUTPUT], out, (size_t)answer.written);
+}
+
+/* An output stream is a line; `out` has room for its line feed. The numbers follow on standard output. */
+static void write_stream(uint8_t *out, int with_state)
+{
+    out[answer.written] = '\n';
+    write_output(given[OUTPUT], out, (size_t)answer.written + 1);
+    if (given[QUIET] != NULL)
+        return;
+    char numbers[64];
+    int length = snprintf(numbers, sizeof numbers, "fences %d\n", (int)answer.fences);
+    if (with_state)
+        length += snprintf(numbers + length, sizeof numbers - (size_t)length, "state %d\n", (int)answer.state);
+    write_output(NULL, numbers, (size_t)length);
+}
+
+/* The parts of an input of shimlist, which is judged as shim_list judges it. */
+static struct parts parts_of(const struct input *input)
+{
+    static const struct shim_answer too_long = {SHIM_REFUSED_OVER_LIMIT, 0, 0, 0, 0};
+    static const struct shim_answer no_input = {SHIM_REFUSED_TEXT, 0, 0, 0, 0};
+    struct parts parts;
+    size_t place;
+    if (input->length > SHIM_LIST_INPUT_LIMIT)
+        refuse_input_length(input, &too_long);
+    const char *missing = take_apart(input, &parts, &place);
+    if (missing != NULL)
+        refuse_shape(input, missing, place, &no_input);
+    return parts;
+}
+
+/* ---- the subcommands, in the order of shim.h */
+
+static void make_builtin(char **operands, int count)
+{
+    static uint8_t out[SHIM_TEXT_OUT];
+    uint64_t number;
+    (void)count;
+    if (!is_number(operands[0], &number))
+        misuse("%s: is no number", operands[0]);
+    if (shim_builtin(number, out, sizeof out, &answer) != SHIM_DONE)
+        refuse_number(NULL, "built-in model", operands[0], SHIM_BUILTINS - 1, &answer);
+    write_answered(out);
+}
+
+static void make_model(char **operands, int count)
+{
+    static uint8_t out[SHIM_TEXT_OUT];
+    struct input text = model_input(operands[0], 0);
+    (void)count;
+    if (shim_model(text.at, text.length, out, sizeof out, &answer) != SHIM_DONE) {
+        judge_model(&text);
+        refuse_rest(text.name, &answer);
+    }
+    write_answered(out);
+}
+
+static void make_compare(char **operands, int count)
+{
+    static const char *const relations[] = {
+        [SHIM_EQUAL] = "equal\n",
+        [SHIM_FIRST_STRONGER] = "first stronger\n",
+        [SHIM_SECOND_STRONGER] = "second stronger\n",
+        [SHIM_NEITHER] = "neither\n",
+    };
+    struct input first = model_input(operands[0], 0), second = model_input(operands[1], 0);
+    uint64_t relation;
+    (void)count;
+    if (shim_compare(first.at, first.length, second.at, second.length, &relation, &answer) != SHIM_DONE) {
+        judge_model(&first);
+        judge_model(&second);
+        refuse_rest(NULL, &answer);
+    }
+    write_output(NULL, relations[relation], strlen(relations[relation]));
+}
+
+static void make_run(char **operands, int count)
+{
+    static uint8_t out[SHIM_RUN_OUT + 1];
+    uint64_t way = way_given();
+    struct input upstream = model_input(operands[0], 0), target = model_input(operands[1], 1);
+    struct input stream = stream_input(count > 2 ? operands[2] : NULL);
+    if (shim_run(way, upstream.at, upstream.length, target.at, target.length, stream.at, stream.length, out,
+                 SHIM_RUN_OUT, &answer) != SHIM_DONE) {
+        judge_model(&upstream);
+        judge_model(&target);
+        struct sides sides = {way, fences_of(&upstream), fences_of(&target)};
+        refuse_stream(&stream, &sides, &answer);
+        refuse_rest(stream.name, &answer);
+    }
+    write_stream(out, 0);
+}
+
+static void generate(const char *name, uint64_t way, const struct input *upstream, const struct input *target)
+{
+    static uint8_t out[SHIM_IMAGE_LIMIT];
+    if (shim_generate(way, upstream->at, upstream->length, target->at, target->length, out, sizeof out, &answer) !=
+        SHIM_DONE) {
+        judge_model(upstream);
+        judge_model(target);
+        refuse_rest(name, &answer);
+    }
+    write_answered(out);
+}
+
+static void make_generate(char **operands, int count)
+{
+    if (count == 1 && given[WAY] != NULL)
+        misuse("an input has its own way");
+    no_image_to_terminal();
+    if (count == 1) {
+        struct input input = file_input(operands[0], SHIM_LIST_INPUT_LIMIT);
+        struct parts parts = parts_of(&input);
+        generate(input.name, parts.way, &parts.upstream, &parts.target);
+        return;
+    }
+    uint64_t way = way_given();
+    struct input upstream = model_input(operands[0], 0), target = model_input(operands[1], 1);
+    char name[1024];
+    snprintf(name, sizeof name, "%s on %s", upstream.name, target.name);
+    generate(name, way, &upstream, &target);
+}
+
+/* How many there are of something, as `1 fence` and `2 fences`. */
+static void tell_count(uint64_t count, const char *what)
+{
+    printf("%d %s%s", (int)count, what, count == 1 ? "" : "s");
+}
+
+/* A side's name, which an image fills up with zeros, and its fences. */
+static void tell_side(const char *side, const uint8_t *name, uint64_t fences)
+{
+    printf("%s%.16s, ", side, (const char *)name);
+    tell_count(fences, "fence");
+}
+
+static void make_image(char **operands, int count)
+{
+    struct input image = file_input(operands[0], SHIM_IMAGE_LIMIT);
+    (void)count;
+    judge_image(&image, header);
+    printf("form      %d\nway       %s\n", image.at[2], header[0] == SHIM_FULL ? "full" : "sparing");
+    printf("states    %d\n", (int)header[1]);
+    tell_side("upstream  ", image.at + 7, header[2]);
+    tell_side("\ntarget    ", image.at + 23, header[3]);
+    printf("\nsize      %zu bytes, ", image.length);
+    tell_count(image.length / 512, "block");
+    printf("\nchecks    ");
+    for (size_t check = 510; check < image.length; check += 512)
+        printf("%02X%02X%s", image.at[check], image.at[check + 1], check + 512 < image.length ? " " : ", all right\n");
+}
+
+static void make_image_run(char **operands, int count)
+{
+    static uint8_t out[SHIM_IMAGE_RUN_OUT + 1];
+    uint64_t start;
+    if (given[START] == NULL)
+        misuse("--start with a state is missing");
+    if (!is_number(given[START], &start))
+        misuse("%s: is no number", given[START]);
+    struct input image = file_input(operands[0], SHIM_IMAGE_LIMIT);
+    struct input stream = stream_input(count > 1 ? operands[1] : NULL);
+    if (shim_image_run(image.at, image.length, start, stream.at, stream.length, out, SHIM_IMAGE_RUN_OUT, &answer) !=
+        SHIM_DONE) {
+        judge_image(&image, header);
+        if (answer.number == SHIM_REFUSED_OUT_OF_RANGE)
+            refuse_number(image.name, "state", given[START], header[1] - 1, &answer);
+        struct sides sides = {header[0], header[2], header[3]};
+        refuse_stream(&stream, &sides, &answer);
+        refuse_rest(stream.name, &answer);
+    }
+    write_stream(out, 1);
+}
+
+static void make_list(char **operands, int count)
+{
+    static uint8_t out[SHIM_LIST_OUT];
+    struct input input = file_input(operands[0], SHIM_LIST_INPUT_LIMIT);
+    (void)count;
+    if (shim_list(input.at, input.length, out, sizeof out, &answer) != SHIM_DONE) {
+        struct parts parts = parts_of(&input);
+        judge_model(&parts.upstream);
+        judge_model(&parts.target);
+        struct sides sides = {parts.way, fences_of(&parts.upstream), fences_of(&parts.target)};
+        refuse_stream(&parts.stream, &sides, &answer);
+        refuse_rest(input.name, &answer);
+    }
+    write_answered(out);
+}
+
+static void make_draw(char **operands, int count)
+{
+    static uint8_t out[SHIM_DRAWING_OUT];
+    struct input image = file_input(operands[0], SHIM_IMAGE_LIMIT);
+    (void)count;
+    if (shim_draw(image.at, image.length, out, sizeof out, &answer) != SHIM_DONE) {
+        judge_image(&image, header);
+        refuse_rest(image.name, &answer);
+    }
+    write_answered(out);
+}
+
+static void make_undraw(char **operands, int count)
+{
+    static uint8_t out[SHIM_IMAGE_LIMIT];
+    (void)count;
+    no_image_to_terminal();
+    struct input drawing = file_input(operands[0], SHIM_DRAWING_LIMIT);
+    if (shim_undraw(drawing.at, drawing.length, out, sizeof out, &answer) != SHIM_DONE) {
+        judge_drawing(&drawing);
+        refuse_rest(drawing.name, &answer);
+    }
+    write_answered(out);
+}
+
+/* ---- the words of the command */
+
+#define RUN "--way full|sparing [-q] [-o FILE] UPSTREAM TARGET [STREAM]"
+#define GENERATE "--way full|sparing [-o FILE] UPSTREAM TARGET\n       shim generate [-o FILE] INPUT"
+#define IMAGE_RUN "--start STATE [-q] [-o FILE] IMAGE [STREAM]"
+
+static const struct subcommand subcommands[] = {
+    {"builtin", "[-o FILE] NUMBER", "the text of a built-in model", make_builtin, "o", 1, 1, 0},
+    {"model", "[-o FILE] MODEL", "a model's text, read and written back", make_model, "o", 1, 1, 0},
+    {"compare", "MODEL MODEL", "which of two models is stronger", make_compare, "", 2, 2, 0},
+    {"run", RUN, "a stream with its fences", make_run, "woq", 2, 3, 1},
+    {"generate", GENERATE, "the image of the smallest machine", make_generate, "wo", 1, 2, 0},
+    {"image", "IMAGE", "an image's header, size and checks", make_image, "", 1, 1, 0},
+    {"image-run", IMAGE_RUN, "a stream's run over an image", make_image_run, "soq", 1, 2, 1},
+    {"list", "[-o FILE] INPUT", "the machine and the run of an input", make_list, "o", 1, 1, 0},
+    {"draw", "[-o FILE] IMAGE", "an image's drawing, for Graphviz", make_draw, "o", 1, 1, 0},
+    {"undraw", "[-o FILE] DRAWING", "a drawing's image", make_undraw, "o", 1, 1, 0},
+};
+
+enum { SUBCOMMANDS = sizeof subcommands / sizeof *subcommands };
+
+static void tell_usage(FILE *to)
+{
+    if (current != NULL) {
+        fprintf(to, "usage: shim %s %s\n", current->name, current->words);
+        return;
+    }
+    fprintf(to, "usage: shim SUBCOMMAND [OPTION...] OPERAND...\n");
+    for (int i = 0; i < SUBCOMMANDS; i++)
+        fprintf(to, "       shim %s %s\n", subcommands[i].name, subcommands[i].words);
+}
+
+void misuse(const char *format, ...)
+{
+    va_list words;
+    va_start(words, format);
+    fprintf(stderr, "shim: ");
+    vfprintf(stderr, format, words);
+    fprintf(stderr, "\n");
+    va_end(words);
+    tell_usage(stderr);
+    exit(TROUBLE);
+}
+
+ENDS static void tell_help(void)
+{
+    tell_usage(stdout);
+    printf("\n");
+    for (int i = 0; i < SUBCOMMANDS; i++)
+        if (current == NULL || current == &subcommands[i])
+            printf("  %-9s  %s\n", subcommands[i].name, subcommands[i].does);
+    printf("\nA model is a file, a built-in model's number (0 to 15) or builtin:NAME, as builtin:TSO. A stream is the\n"
+           "stream itself or @FILE. - is standard input. The manual page shim(1) says more.\n");
+    end_done();
+}
+
+ENDS static void tell_version(void)
+{
+    printf("shim %s\n", SHIM_VERSION);
+    end_done();
+}
+
+/* `word` is the one that was looked at last; of several letters behind one dash, optopt is the one that is not known. */
+static void take_option(int letter, const char *word)
+{
+    if (letter == 'h')
+        tell_help();
+    if (letter == 'v')
+        tell_version();
+    if (letter == ':')
+        misuse("%s wants a word behind it", written[strchr(letters, optopt) - letters]);
+    if (letter == '?' && strncmp(word, "--", 2) == 0)
+        misuse("%s: there is no such option", word);
+    if (letter == '?')
+        misuse("-%c: there is no such option", optopt);
+    int option = (int)(strchr(letters, letter) - letters);
+    if (strchr(current->options, letter) == NULL)
+        misuse("%s has no option %s", current->name, written[option]);
+    given[option] = option == QUIET ? "" : optarg;
+}
+
+static void take_options(int count, char **words)
+{
+    static const struct option names[] = {
+        {"way", required_argument, NULL, 'w'},
+        {"start", required_argument, NULL, 's'},
+        {"output", required_argument, NULL, 'o'},
+        {"quiet", no_argument, NULL, 'q'},
+        {"help", no_argument, NULL, 'h'},
+        {"version", no_argument, NULL, 'v'},
+        {NULL, 0, NULL, 0},
+    };
+    int option;
+    opterr = 0;
+    while ((option = getopt_long(count, words, ":o:qh", names, NULL)) != -1)
+        take_option(option, words[optind - 1]);
+}
+
+/* Standard input can be read once, and is also meant where a stream is missing. */
+static void count_operands(char **operands, int count)
+{
+    if (count < current->least)
+        misuse("an operand is missing");
+    if (count > current->most)
+        misuse("%s: is an operand too many", operands[current->most]);
+    int standard = current->stream && count < current->most;
+    for (int i = 0; i < count; i++)
+        standard += is_standard_input(operands[i]);
+    if (standard > 1)
+        misuse("standard input can be only one of the inputs");
+}
+
+/* Some calls want more stack than a small limit leaves, and would end by a signal. */
+static void need_stack(void)
+{
+    enum { NEEDED = SHIM_STACK_GENERATE + SHIM_STACK_OTHERS };
+    struct rlimit stack;
+    if (getrlimit(RLIMIT_STACK, &stack) != 0 || stack.rlim_cur >= NEEDED)
+        return;
+    stack.rlim_cur = NEEDED;
+    if (setrlimit(RLIMIT_STACK, &stack) != 0)
+        cannot("the stack", "made as large as some calls want", "; see ulimit -s");
+}
+
+int main(int count, char **words)
+{
+    need_stack();
+    if (count < 2)
+        misuse("a subcommand is missing");
+    for (int i = 0; i < SUBCOMMANDS; i++)
+        if (strcmp(words[1], subcommands[i].name) == 0)
+            current = &subcommands[i];
+    if (current == NULL && (strcmp(words[1], "--help") == 0 || strcmp(words[1], "-h") == 0))
+        tell_help();
+    if (current == NULL && strcmp(words[1], "--version") == 0)
+        tell_version();
+    if (current == NULL)
+        misuse("%s: there is no such subcommand", words[1]);
+    take_options(count - 1, words + 1);
+    char **operands = words + 1 + optind;
+    count_operands(operands, count - 1 - optind);
+    current->make(operands, count - 1 - optind);
+    end_done();
+}
