@@ -48,8 +48,6 @@
 #ifndef SHIM_H
 #define SHIM_H
 
-#define SHIM_VERSION "0.1.0"
-
 #include <stddef.h>
 #include <stdint.h>
 
