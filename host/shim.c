@@ -60,18 +60,25 @@ static void write_answered(const uint8_t *out)
     write_output(given[OUTPUT], out, (size_t)answer.written);
 }
 
-/* An output stream is a line; `out` has room for its line feed. The numbers follow on standard output. */
-static void write_stream(uint8_t *out, int with_state)
+static void tell_numbers(int with_state)
 {
-    out[answer.written] = '\n';
-    write_output(given[OUTPUT], out, (size_t)answer.written + 1);
     if (given[QUIET] != NULL)
         return;
-    char numbers[64];
-    int length = snprintf(numbers, sizeof numbers, "fences %d\n", (int)answer.fences);
+    printf("fences %d\n", (int)answer.fences);
     if (with_state)
-        length += snprintf(numbers + length, sizeof numbers - (size_t)length, "state %d\n", (int)answer.state);
-    write_output(NULL, numbers, (size_t)length);
+        printf("state %d\n", (int)answer.state);
+    flush_standard_output();
+}
+
+/* An output stream is a line; `out` has room for its line feed. A file is written last, when nothing else can go wrong. */
+static void write_stream(uint8_t *out, int with_state)
+{
+    out[answer.written++] = '\n';
+    if (!is_standard_output(given[OUTPUT]))
+        tell_numbers(with_state);
+    write_answered(out);
+    if (is_standard_output(given[OUTPUT]))
+        tell_numbers(with_state);
 }
 
 /* The parts of an input of shimlist, which is judged as shim_list judges it. */
@@ -326,13 +333,15 @@ ENDS static void tell_help(void)
             printf("  %-9s  %s\n", subcommands[i].name, subcommands[i].does);
     printf("\nA model is a file, a built-in model's number (0 to 15) or builtin:NAME, as builtin:TSO. A stream is the\n"
            "stream itself or @FILE. - is standard input. The manual page shim(1) says more.\n");
-    end_done();
+    flush_standard_output();
+    exit(DONE);
 }
 
 ENDS static void tell_version(void)
 {
     printf("shim %s\n", SHIM_VERSION);
-    end_done();
+    flush_standard_output();
+    exit(DONE);
 }
 
 /* `word` is the one that was looked at last; of several letters behind one dash, optopt is the one that is not known. */
@@ -415,5 +424,6 @@ int main(int count, char **words)
     char **operands = words + 1 + optind;
     count_operands(operands, count - 1 - optind);
     current->make(operands, count - 1 - optind);
-    end_done();
+    flush_standard_output();
+    return DONE;
 }

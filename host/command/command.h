@@ -58,14 +58,15 @@ const char *take_apart(const struct input *whole, struct parts *parts, size_t *p
 
 /* ---- outputs.c */
 
-/* Does this output go to a terminal? */
+/* Does this output go to standard output, and to a terminal there? */
+int is_standard_output(const char *path);
 int is_terminal(const char *path);
 
 /* Writes to the file, whole or not at all, or to standard output for `-` and where no file is named. */
 void write_output(const char *path, const void *at, size_t length);
 
-/* Ends the command with success, if all that went to standard output has arrived there. */
-ENDS void end_done(void);
+/* Ends the command where not all that went to standard output has arrived there. */
+void flush_standard_output(void);
 
 /* Ends the command with the system's words for what just went wrong with a file, and a hint behind them. */
 ENDS void cannot(const char *name, const char *done, const char *hint);

@@ -16,7 +16,7 @@ void cannot(const char *name, const char *done, const char *hint)
     exit(TROUBLE);
 }
 
-static int is_standard_output(const char *path)
+int is_standard_output(const char *path)
 {
     return path == NULL || strcmp(path, "-") == 0;
 }
@@ -32,12 +32,10 @@ static void write_standard_output(const void *at, size_t length)
         cannot("standard output", "written", "");
 }
 
-void end_done(void)
+void flush_standard_output(void)
 {
-    /* What was not written at once is written now, and a full disk may show only here. */
-    if (ferror(stdout) || fclose(stdout) != 0)
+    if (ferror(stdout) || fflush(stdout) != 0)
         cannot("standard output", "written", "");
-    exit(DONE);
 }
 
 /* A device or a pipe cannot be replaced. */
@@ -94,19 +92,28 @@ static int is_filled(int file, mode_t mode, const void *at, size_t length)
     return filled && closed;
 }
 
+/* A name for a file in the same folder. */
+static char *name_beside(const char *path)
+{
+    static const char name[] = ".shim-XXXXXX";
+    const char *slash = strrchr(path, '/');
+    size_t folder = slash == NULL ? 0 : (size_t)(slash - path) + 1;
+    char *beside = malloc(folder + sizeof name);
+    if (beside == NULL)
+        cannot(path, "written", "");
+    memcpy(beside, path, folder);
+    memcpy(beside + folder, name, sizeof name);
+    return beside;
+}
+
 /*
  * A file beside the old one takes its place when it is whole. No signal that can be held back comes between, and a limit
  * of the file's size is told like any other fault.
  */
 static void replace(const char *path, const void *at, size_t length)
 {
-    char *meant = meant_file(path);
+    char *meant = meant_file(path), *beside = name_beside(meant);
     mode_t mode = mode_for(meant);
-    static const char ending[] = ".XXXXXX";
-    char *beside = malloc(strlen(meant) + sizeof ending);
-    if (beside == NULL)
-        cannot(path, "written", "");
-    strcat(strcpy(beside, meant), ending);
     sigset_t all, former;
     sigfillset(&all);
     sigprocmask(SIG_BLOCK, &all, &former);
