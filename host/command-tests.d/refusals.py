@@ -1,0 +1,366 @@
+"""Bad input: number and place by the model, the sentence, the line and the caret by the papers, and nothing written."""
+import os
+import re
+from dataclasses import dataclass
+from typing import Any
+
+import broken
+from good import BARE, image_of, input_of, model_file
+from papers import LARGEST, changed, escaped, line_and_column, renewed, says_not_of_the_form, shows_place
+
+WITH_OUTPUT = ("builtin", "model", "run", "generate", "image-run", "list", "draw", "undraw")
+TOO_LONG = {
+    "model": "a model's text has at most 1024 bytes", "stream": "a stream has at most 4096 operations",
+    "image": "an image has at most 7168 bytes", "drawing": "a drawing has at most 262144 bytes",
+    "input": "an input has at most 32768 bytes",
+}
+
+
+@dataclass
+class Fault:
+    """A refusal as it must be told: the text and the place in it only where a line is to be shown."""
+    number: int
+    place: int
+    sentence: Any  # its words, or a test of them
+    text: Any = None
+    at: int = 0
+
+
+def answer(told):
+    """The number and the place of a refusal that the model tells."""
+    found = re.fullmatch(rb"refused (\d+) at (\d+)\n", told)
+    assert found, f"the model does not refuse: {told!r}"
+    return int(found.group(1)), int(found.group(2))
+
+
+# ---- the check of a refusal
+
+def is_told(trial, ran, name, fault):
+    head = "shim: " + (f"{name}: " if name else "")
+    if fault.text is not None:
+        head += "line %d, column %d: " % line_and_column(fault.text, fault.at)
+    tail = f" (refused {fault.number} at {fault.place})"
+    line, _, rest = ran.err.partition(b"\n")
+    line = line.decode("latin-1")
+    framed = line.startswith(head) and line.endswith(tail) and len(line) > len(head) + len(tail)
+    trial.check(ran, framed, f"must be told as: {head}...{tail}")
+    sentence = line[len(head):len(line) - len(tail)]
+    right = fault.sentence(sentence) if callable(fault.sentence) else sentence == fault.sentence
+    trial.check(ran, right, f"the sentence is: {sentence}", "" if callable(fault.sentence) else f"and must be: {fault.sentence}")
+    shows = rest == b"" if fault.text is None else shows_place(rest, fault.text, fault.at)
+    trial.check(ran, shows, "the line or the caret is not right")
+
+
+def standing(trial, name):
+    """All of an output file that a refusal must leave as it is."""
+    status = os.stat(trial.path(name))
+    return trial.read(name), status.st_mode, status.st_ino, status.st_mtime_ns
+
+
+def refused(trial, words, name, fault, data=b""):
+    """The call is refused, tells it and writes nothing, neither to a new output file nor over an old one."""
+    out, before = None, None
+    if words[0] in WITH_OUTPUT:
+        out = trial.output(*([b"old"] if trial.calls % 2 else []))
+        before = standing(trial, out) if os.path.exists(trial.path(out)) else None
+        words = [*words, "-o", out]
+    ran = trial.run(*words, data=data)
+    trial.check(ran, ran.status == 1 and ran.out == b"", "must be refused, with nothing on standard output")
+    is_told(trial, ran, name, fault)
+    if out:
+        left = standing(trial, out) if os.path.exists(trial.path(out)) else None
+        trial.check(ran, left == before, "the output file is not as it was")
+        trial.nothing_left(ran, out)
+
+
+def by_file_and_pipe(trial, words, place, label, data, fault):
+    """An input that is wrong, as a file and on standard input. `words[place]` is where it stands."""
+    file = trial.file(f"bad/{label}", data)
+    refused(trial, words[:place] + [file] + words[place + 1:], file, fault)
+    refused(trial, words[:place] + ["-"] + words[place + 1:], "standard input", fault, data)
+
+
+# ---- models
+
+def fault_of_model(trial, text, whole=None, before=0):
+    """What is wrong with a model's text, which may stand in a whole input behind so many bytes."""
+    number, place = answer(trial.model("model", data=text))
+    if number == 1:
+        return Fault(1, 0, "too long: " + TOO_LONG["model"])
+    sentence = lambda told: says_not_of_the_form(trial, "model", text, place, told)
+    if number == 3:
+        sentence = f"the fence name '{text[place:].split()[0].decode()}' stands above already"
+    return Fault(number, place, sentence, text if whole is None else whole, before + place)
+
+
+def models(trial):
+    for label, text in broken.models().items():
+        by_file_and_pipe(trial, ["model", ""], 1, label, text, fault_of_model(trial, text))
+
+
+def model_at_every_byte(trial):
+    text = trial.model("builtin", "1")
+    for at in range(len(text)):
+        wrong = text[:at] + b"*" + text[at + 1:]
+        refused(trial, ["model", "-"], "standard input", fault_of_model(trial, wrong), wrong)
+    for at in range(0, len(text), 3):
+        refused(trial, ["model", "-"], "standard input", fault_of_model(trial, text[:at]), text[:at])
+
+
+MODEL_PLACES = (
+    (["compare", "", "1"], 1), (["compare", "1", ""], 2), (["run", "--way", "full", "", "15", "l"], 3),
+    (["run", "--way", "sparing", "1", "", "l"], 4), (["generate", "--way", "full", "", "15"], 3),
+    (["generate", "--way", "sparing", "1", ""], 4),
+)
+
+
+def models_in_every_place(trial):
+    for label in ("too-long", "no-cell", "repeats"):
+        text = broken.models()[label]
+        for words, place in MODEL_PLACES:
+            by_file_and_pipe(trial, words, place, label, text, fault_of_model(trial, text))
+
+
+def models_in_inputs(trial):
+    """K counts in the model's own text, the line and the column in the whole file."""
+    good = trial.model("builtin", "15")
+    for label in ("too-long", "no-cell", "repeats", "second-line"):
+        text = broken.models()[label]
+        for up, target, before in ((text, good, 0), (good, text, len(good))):
+            data = up + target + b"way full\nrun l\n"
+            assert trial.model("list", data=data) == trial.model("model", data=text), "the input has the text's own refusal"
+            for subcommand in ("list", "generate"):
+                by_file_and_pipe(trial, [subcommand, ""], 1, f"{label}-{before}", data, fault_of_model(trial, text, data, before))
+
+
+# ---- numbers
+
+def numbers(trial):
+    for word in ("16", "017", "256", "4294967296", str(LARGEST), str(LARGEST + 1), "9" * 40):
+        fault = Fault(12, 0, f"there is no built-in model {min(int(word), LARGEST)}; the last is 15")
+        refused(trial, ["builtin", word], "", fault)
+        refused(trial, ["model", f"builtin:{word}"], "", fault)
+    fault = Fault(12, 0, "there is no built-in model 16; the last is 15")
+    for words, place in MODEL_PLACES:
+        refused(trial, words[:place] + ["16"] + words[place + 1:], "", fault)
+
+
+def states(trial):
+    image = trial.file("images/tso-on-arm", image_of(trial, "full", 1, 15))
+    for word in ("3", "003", "255", "256", "4294967296", str(LARGEST), str(LARGEST + 1), "9" * 40):
+        fault = Fault(12, 0, f"there is no state {min(int(word), LARGEST)}; the last is 2")
+        refused(trial, ["image-run", "--start", word, image, "l"], image, fault)
+
+
+# ---- streams
+
+def fault_of_stream(told, stream, upstream_fences, six, whole=None, before=0):
+    """What is wrong with a stream, of which the model tells number and place."""
+    number, place = answer(told)
+    if number == 1:
+        return Fault(1, 0, "too long: " + TOO_LONG["stream"])
+    byte = stream[place:place + 1]
+    shown = escaped(byte[0]).decode()
+    last = f"its last is {upstream_fences - 1}" if upstream_fences else "it has none"
+    sentences = {
+        4: f"'{shown}' is no operation; operations are l, L, s, S, 0 to 9 and A to F",
+        5: f"the upstream model has no fence {int(byte, 16) if byte.isalnum() and number == 5 else ''}; {last}",
+        6: f"no fence will do before this access: {six}",
+    }
+    return Fault(number, place, sentences[number], stream if whole is None else whole, before + place)
+
+
+def wrong_streams(trial):
+    """Streams of TSO on ARM, by direct runs, over the image and in an input, given in each manner."""
+    image = trial.file("images/tso-on-arm", image_of(trial, "full", 1, 15))
+    for label, stream in broken.STREAMS.items():
+        file = trial.file(f"bad/stream-{label}", stream)
+        fault = fault_of_stream(trial.model("run", "full", "1", "15", "@" + file), stream, 1, "")
+        for begun in (["run", "--way", "full", "1", "15"], ["image-run", "--start", "0", image]):
+            if b"\0" not in stream:
+                refused(trial, [*begun, stream], "the stream", fault)
+            # A line feed at a file's end is no part of the stream.
+            whole = Fault(fault.number, fault.place, fault.sentence, fault.text and stream + b"\n", fault.at)
+            named = trial.file(f"bad/stream-{label}-line", stream + b"\n")
+            refused(trial, [*begun, "@" + named], named, whole)
+        refused(trial, ["run", "--way", "full", "1", "15"], "standard input", whole, stream + b"\n")
+        refused(trial, ["image-run", "--start", "0", image, "-"], "standard input", whole, stream + b"\n")
+
+
+def streams_in_inputs(trial):
+    models = trial.model("builtin", "1") + trial.model("builtin", "15") + b"way full\nrun "
+    for label, stream in broken.STREAMS.items():
+        data = models + stream + b"\n"
+        fault = fault_of_stream(trial.model("list", data=data), stream, 1, "", data, len(models))
+        by_file_and_pipe(trial, ["list", ""], 1, f"list-{label}", data, fault)
+
+
+def line_feeds(trial):
+    """Only one line feed at a file's end is left out, and none of an argument."""
+    sentence = lambda told: re.fullmatch(r"'(\\n|\\x0A)' is no operation; operations are l, L, s, S, 0 to 9 and A to F", told)
+    begun = ["run", "--way", "full", "1", "15"]
+    refused(trial, [*begun, b"ss\n"], "the stream", Fault(4, 2, sentence, b"ss\n", 2))
+    refused(trial, begun, "standard input", Fault(4, 2, sentence, b"ss\n\n", 2), b"ss\n\n")
+    refused(trial, begun, "standard input", Fault(4, 2, sentence, b"ss\nll\n", 2), b"ss\nll\n")
+    refused(trial, begun, "standard input", Fault(1, 0, "too long: " + TOO_LONG["stream"]), b"l" * 4096 + b"\n\n")
+
+
+def without_fences(trial):
+    """A fence that an upstream model without any does not have."""
+    told = trial.model("run", "full", "0", "15", "l0")
+    refused(trial, ["run", "--way", "full", "0", "15", "l0"], "the stream", fault_of_stream(told, b"l0", 0, ""))
+    told = trial.model("run", "full", "7", "15", "l01A")
+    refused(trial, ["run", "--way", "full", "7", "15", "l01A"], "the stream", fault_of_stream(told, b"l01A", 2, ""))
+
+
+def no_fence_will_do(trial):
+    """The three reasons, by a direct run, over the image and in an input."""
+    for label, (way, up, target, stream, why) in broken.NO_FENCE.items():
+        files = [trial.file(f"bad/{label}-up", up), trial.file(f"bad/{label}-target", target)]
+        fault = fault_of_stream(trial.model("run", way, *files, stream.decode()), stream, 0, why)
+        refused(trial, ["run", "--way", way, *files, stream], "the stream", fault)
+        image = trial.file(f"bad/{label}-image", image_of(trial, way, *files))
+        refused(trial, ["image-run", "--start", "0", image, stream], "the stream", fault)
+        models = up + target + b"way %s\nrun " % way.encode()
+        data = models + stream + b"\n"
+        fault = Fault(fault.number, fault.place, fault.sentence, data, len(models) + fault.place)
+        by_file_and_pipe(trial, ["list", ""], 1, f"{label}-input", data, fault)
+
+
+# ---- machines that are too large
+
+def too_large(trial):
+    for upstream, target, number, sentence in (
+        ("a4097", "part", 8, "the shim reaches more than 4096 situations"), ("st256-up", "st-target", 9, "the machine has more than 255 states"),
+        ("both-up", "both-target", 8, "the shim reaches more than 4096 situations"),
+    ):
+        files = [model_file(trial, upstream), model_file(trial, target)]
+        assert answer(trial.model("image", "sparing", *files)) == (number, 0), "the pair is over this limit"
+        refused(trial, ["generate", "--way", "sparing", *files], " on ".join(files), Fault(number, 0, sentence))
+        models = trial.read(files[0]) + trial.read(files[1])
+        too_large_input(trial, upstream, models + b"way sparing\nrun l\n", Fault(number, 0, sentence))
+    names = ["standard input", files[1]]
+    refused(trial, ["generate", "--way", "sparing", "-", files[1]], " on ".join(names), Fault(8, 0, sentence), trial.read(files[0]))
+
+
+def too_large_input(trial, label, data, fault):
+    """In an input the models have no names of their own on the command line: which name is told is left open."""
+    file = trial.file(f"bad/{label}-input", data)
+    for subcommand in ("list", "generate"):
+        ran = trial.run(subcommand, file)
+        trial.check(ran, ran.status == 1 and ran.out == b"", "must be refused, with nothing on standard output")
+        line = f": {fault.sentence} (refused {fault.number} at 0)\n".encode()
+        trial.check(ran, ran.err.startswith(b"shim: ") and ran.err.endswith(line) and ran.err.count(b"\n") == 1, f"must end {line!r}")
+
+
+# ---- inputs of another shape
+
+def shapes(trial):
+    for label, (data, words) in broken.shapes(trial.model("builtin", "1"), trial.model("builtin", "15")).items():
+        file = trial.file(f"bad/shape-{label}", data)
+        for subcommand in ("list", "generate"):
+            for named, given, name in ((file, b"", file), ("-", data, "standard input")):
+                ran = trial.run(subcommand, named, data=given)
+                line = ran.err.split(b"\n")[0].decode("latin-1")
+                holds = line.startswith(f"shim: {name}: ") and line.endswith(" (refused 2 at 0)")
+                trial.check(ran, holds and ran.status == 1 and ran.out == b"", "must be refused with 2 at 0")
+                trial.check(ran, all(word in line for word in words), f"must speak of {words}")
+    data = trial.model("builtin", "1") * 2 + b"way full\nrun " + b"l" * 32768
+    for subcommand in ("list", "generate"):
+        by_file_and_pipe(trial, [subcommand, ""], 1, "input-too-long", data, Fault(1, 0, "too long: " + TOO_LONG["input"]))
+
+
+# ---- images
+
+def fault_of_image(trial, image):
+    number, place = answer(trial.model("image-read", data=image))
+    if number == 1:
+        return Fault(1, 0, "too long: " + TOO_LONG["image"])
+    if number == 11:
+        return Fault(11, place, lambda told: broken.names_barred_byte(image, place, told))
+    block = image[512 * place:512 * place + 512]
+    own = int.from_bytes(block[:2], "big")
+    # Where both the number and the check are wrong, the number is told: it comes first in document 01 and in the block.
+    sentence = f"block {place} is damaged: its check does not fit its bytes"
+    if not image:
+        sentence = "the image is empty"
+    elif len(block) < 512:
+        sentence = f"block {place} is cut short: a block has 512 bytes"
+    elif own != place:
+        sentence = f"block {place} has the number {own}"
+    return Fault(10, place, sentence)
+
+
+def images(trial):
+    sound = image_of(trial, "sparing", 1, 13)
+    wrong = broken.images(sound, image_of(trial, "full", 1, 5))
+    for label, image in wrong.items():
+        file = trial.file(f"bad/image-{label}", image)
+        refused(trial, ["image", file], file, fault_of_image(trial, image))
+    for label in ("empty", "too-long", "number", "damaged", "cut", "form"):
+        for words, place in ((["image", ""], 1), (["draw", ""], 1), (["image-run", "--start", "0", "", "l"], 3)):
+            by_file_and_pipe(trial, words, place, f"image-{label}", wrong[label], fault_of_image(trial, wrong[label]))
+
+
+# ---- drawings
+
+def fault_of_drawing(trial, drawing):
+    number, place = answer(trial.model("undraw", data=drawing))
+    if number == 1:
+        return Fault(1, 0, "too long: " + TOO_LONG["drawing"])
+    return Fault(2, place, lambda told: says_not_of_the_form(trial, "drawing", drawing, place, told), drawing, place)
+
+
+def drawings(trial):
+    """A byte that stands in no drawing at every second place; cuts; and what was made for the purpose."""
+    drawing = trial.model("draw", data=image_of(trial, "full", 1, 5))
+    places = [*range(0, 70, 2), *range(70, len(drawing), 9), drawing.index(b"refused"), drawing.index(b"!"), len(drawing) - 2, len(drawing) - 1]
+    wrong = [drawing[:at] + b"*" + drawing[at + 1:] for at in places] + [drawing[:at] for at in range(0, len(drawing), 11)]
+    for text in wrong:
+        refused(trial, ["undraw", "-"], "standard input", fault_of_drawing(trial, text), text)
+    for label, text in broken.drawings(drawing).items():
+        by_file_and_pipe(trial, ["undraw", ""], 1, f"drawing-{label}", text, fault_of_drawing(trial, text))
+
+
+# ---- which is told first
+
+def orders(trial):
+    bad = broken.models()
+    first, second = bad["no-cell"], bad["repeats"]
+    files = [trial.file("bad/first", first), trial.file("bad/second", second)]
+    fault = fault_of_model(trial, first)
+    refused(trial, ["compare", *files], files[0], fault)
+    refused(trial, ["run", "--way", "full", *files, "x"], files[0], fault)
+    refused(trial, ["generate", "--way", "full", *files], files[0], fault)
+    refused(trial, ["run", "--way", "full", "1", files[1], "x"], files[1], fault_of_model(trial, second))
+    refused(trial, ["run", "--way", "full", "1", files[1], "l" * 4097], files[1], fault_of_model(trial, second))
+    data = first + second + b"way full\nrun x\n"
+    refused(trial, ["list", "-"], "standard input", fault_of_model(trial, first, data), data)
+
+
+def orders_of_images(trial):
+    sound = image_of(trial, "full", 1, 15)
+    both = changed(sound, 2, 0)[:1023]
+    refused(trial, ["image-run", "--start", "9", "-", "x"], "standard input", fault_of_image(trial, both), both)
+    fault = Fault(12, 0, "there is no state 9; the last is 2")
+    refused(trial, ["image-run", "--start", "9", "-", "l" * 4097], "standard input", fault, sound)
+    refused(trial, ["image-run", "--start", "9", "-", "x"], "standard input", fault, sound)
+
+
+def orders_of_machines(trial):
+    """A stream's refusal goes before those of its machine; a run has no such refusal."""
+    models = trial.stored("model", "models", "a4097.model") + trial.stored("model", "models", "part.model")
+    data = models + b"way full\nrun lx\n"
+    fault = fault_of_stream(trial.model("list", data=data), b"lx", 0, "", data, len(data) - 3)
+    refused(trial, ["list", "-"], "standard input", fault, data)
+    files = [model_file(trial, "a4097"), model_file(trial, "part")]
+    told = trial.model("run", "full", *files, "l0s").splitlines()
+    trial.is_done(trial.run("run", "--way", "full", *files, "l0s"), told[0][4:] + b"\n" + told[2] + b"\n")
+
+
+def tried(trial):
+    for part in (
+        models, model_at_every_byte, models_in_every_place, models_in_inputs, numbers, states, wrong_streams, streams_in_inputs,
+        line_feeds, without_fences, no_fence_will_do, too_large, shapes, images, drawings, orders, orders_of_images, orders_of_machines,
+    ):
+        part(trial)
