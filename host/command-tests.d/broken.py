@@ -70,20 +70,21 @@ NO_FENCE = {
 
 
 def shapes(up, target):
-    """Inputs of another shape, with words that the sentence must have."""
-    both = up + target
+    """Inputs of another shape, with the place where that shows and words that the sentence must have."""
+    both, way = up + target, b"way full\n"
+    returns = (both + way + b"run l\n").replace(b"\n", b"\r\n")
     return {
-        "empty": (b"", ["end"]),
-        "no-end": (up[:-4], ["end"]),
-        "one-end": (up + target[:-4], ["end"]),
-        "end-with-return": (both.replace(b"\n", b"\r\n") + b"way full\r\nrun l\r\n", ["end"]),
-        "no-way": (both + b"run l\n", ["way"]),
-        "cut-before-way": (both, ["way"]),
-        "another-way": (both + b"way fast\nrun l\n", ["way"]),
-        "no-run": (both + b"way full\n", ["run"]),
-        "another-run": (both + b"way full\nruns l\n", ["run"]),
-        "no-line-feed": (both + b"way full\nrun l", []),
-        "more": (both + b"way full\nrun l\nl\n", []),
+        "empty": (b"", 0, ["end"]),
+        "no-end": (up[:-4], len(up) - 4, ["end"]),
+        "one-end": (up + target[:-4], len(both) - 4, ["end"]),
+        "end-with-return": (returns, len(returns), ["end"]),
+        "no-way": (both + b"run l\n", len(both), ["way full", "way sparing"]),
+        "cut-before-way": (both, len(both), ["way full", "way sparing"]),
+        "another-way": (both + b"way fast\nrun l\n", len(both), ["way full", "way sparing"]),
+        "no-run": (both + way, len(both + way), ["run "]),
+        "another-run": (both + way + b"runs l\n", len(both + way), ["run "]),
+        "no-line-feed": (both + way + b"run l", len(both + way) + 5, ["line feed"]),
+        "more": (both + way + b"run l\nl\n", len(both + way) + 6, ["nothing may follow"]),
     }
 
 

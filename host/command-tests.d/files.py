@@ -126,12 +126,11 @@ def numbers_unwritten(trial):
     """Where the numbers of a run cannot be written something goes wrong, so the output file stays as it was."""
     for old in ([], [b"old"]):
         name = trial.output(*old)
-        before = standing(trial, name) if old else None
+        before = standing(trial, name)
         with open("/dev/full", "wb") as full:
             ran = trial.run("run", "--way", "full", "1", "15", "ssl0l", "-o", name, stdout=full)
         failed(trial, ran, "standard output", "written", errno.ENOSPC)
-        after = standing(trial, name) if os.path.exists(trial.path(name)) else None
-        trial.check(ran, after == before, "the output file is not as it was")
+        trial.check(ran, standing(trial, name) == before, "the output file is not as it was")
         trial.nothing_left(ran, name)
 
 
@@ -165,11 +164,10 @@ def half_written(trial):
     for words, data, written in outputs(trial):
         for old in ([], [b"old" * 1000]):
             name = trial.output(*old)
-            before = standing(trial, name) if old else None
+            before = standing(trial, name)
             ran = trial.run(*words, "-o", name, data=data, preexec_fn=limited(len(written) // 2))
             failed(trial, ran, name, "written", errno.EFBIG)
-            after = standing(trial, name) if os.path.exists(trial.path(name)) else None
-            trial.check(ran, after == before, "the output file is not as it was")
+            trial.check(ran, standing(trial, name) == before, "the output file is not as it was")
             trial.nothing_left(ran, name)
 
 

@@ -101,9 +101,7 @@ def runs(trial):
     for upstream, target, stream in ((0, 9, "slSLls"), (7, 14, "sl0l1sLS"), (6, 14, "s0l1sSL0l"), (5, 8, "lslsLS"), (1, 13, "llsls0lL")):
         for way in WAYS:
             told = trial.model("run", way, str(upstream), str(target), stream)
-            trial.is_done(trial.run("run", "--way", way, str(upstream), str(target), stream), lines_of(told))
-            files = [model_file(trial, upstream), model_file(trial, target)]
-            trial.is_done(trial.run("run", "-q", "--way", way, *files, stream), lines_of(told, quiet=True))
+            trial.is_done(trial.run("run", "--way", way, str(upstream), model_file(trial, target), stream), lines_of(told))
 
 
 def runs_of_fullest(trial):
@@ -151,13 +149,13 @@ def streams(trial):
 # ---- machines
 
 def machines(trial):
-    for upstream, target in ((0, 15), (1, 14), (7, 7), (6, 9), (5, 13), (1, 5)):
+    for upstream, target in ((0, 15), (7, 14), (6, 9), (1, 5)):
         for way in WAYS:
             image = image_of(trial, way, upstream, target)
             name = trial.file(f"images/{upstream}-{target}-{way}", image)
             trial.is_done(trial.run("generate", "--way", way, str(upstream), str(target)), image)
             trial.is_done(trial.run("image", name), told_of_image(image))
-            data = input_of(trial, way, upstream, target, "llssLS")
+            data = input_of(trial, way, upstream, target, "sLSl")
             trial.is_done(trial.run("list", trial.file(name + ".input", data)), trial.model("list", data=data))
             trial.is_done(trial.run("draw", name), trial.model("draw", data=image))
 

@@ -1,12 +1,12 @@
 """Bad input: number and place by the model, the sentence, the line and the caret by the papers, and nothing written."""
 import os
 import re
-from dataclasses import dataclass
+from dataclasses import dataclass, replace
 from typing import Any
 
 import broken
-from good import BARE, image_of, input_of, model_file
-from papers import LARGEST, changed, escaped, line_and_column, renewed, says_not_of_the_form, shows_place
+from good import image_of, model_file
+from papers import LARGEST, changed, escaped, line_and_column, says_not_of_the_form, shows_place
 
 WITH_OUTPUT = ("builtin", "model", "run", "generate", "image-run", "list", "draw", "undraw")
 TOO_LONG = {
@@ -52,32 +52,34 @@ def is_told(trial, ran, name, fault):
 
 
 def standing(trial, name):
-    """All of an output file that a refusal must leave as it is."""
+    """All of an output file that a refusal must leave as it is; nothing where there is none."""
+    if not os.path.exists(trial.path(name)):
+        return None
     status = os.stat(trial.path(name))
     return trial.read(name), status.st_mode, status.st_ino, status.st_mtime_ns
 
 
 def refused(trial, words, name, fault, data=b""):
     """The call is refused, tells it and writes nothing, neither to a new output file nor over an old one."""
-    out, before = None, None
+    out = trial.output(*([b"old"] if trial.calls % 2 else []))
+    before = standing(trial, out)
     if words[0] in WITH_OUTPUT:
-        out = trial.output(*([b"old"] if trial.calls % 2 else []))
-        before = standing(trial, out) if os.path.exists(trial.path(out)) else None
         words = [*words, "-o", out]
     ran = trial.run(*words, data=data)
     trial.check(ran, ran.status == 1 and ran.out == b"", "must be refused, with nothing on standard output")
     is_told(trial, ran, name, fault)
-    if out:
-        left = standing(trial, out) if os.path.exists(trial.path(out)) else None
-        trial.check(ran, left == before, "the output file is not as it was")
+    if out in words:
+        trial.check(ran, standing(trial, out) == before, "the output file is not as it was")
         trial.nothing_left(ran, out)
 
 
-def by_file_and_pipe(trial, words, place, label, data, fault):
-    """An input that is wrong, as a file and on standard input. `words[place]` is where it stands."""
-    file = trial.file(f"bad/{label}", data)
-    refused(trial, words[:place] + [file] + words[place + 1:], file, fault)
-    refused(trial, words[:place] + ["-"] + words[place + 1:], "standard input", fault, data)
+def by_file_or_pipe(trial, words, place, label, data, fault):
+    """An input that is wrong, as a file and on standard input by turns. `words[place]` is where it stands."""
+    if trial.calls // 2 % 2:
+        refused(trial, words[:place] + ["-"] + words[place + 1:], "standard input", fault, data)
+    else:
+        file = trial.file(f"bad/{label}", data)
+        refused(trial, words[:place] + [file] + words[place + 1:], file, fault)
 
 
 # ---- models
@@ -95,16 +97,13 @@ def fault_of_model(trial, text, whole=None, before=0):
 
 def models(trial):
     for label, text in broken.models().items():
-        by_file_and_pipe(trial, ["model", ""], 1, label, text, fault_of_model(trial, text))
+        by_file_or_pipe(trial, ["model", ""], 1, label, text, fault_of_model(trial, text))
 
 
-def model_at_every_byte(trial):
+def model_at_many_bytes(trial):
     text = trial.model("builtin", "1")
-    for at in range(len(text)):
-        wrong = text[:at] + b"*" + text[at + 1:]
+    for wrong in [text[:at] + b"*" + text[at + 1:] for at in range(0, len(text), 2)] + [text[:at] for at in range(1, len(text), 4)]:
         refused(trial, ["model", "-"], "standard input", fault_of_model(trial, wrong), wrong)
-    for at in range(0, len(text), 3):
-        refused(trial, ["model", "-"], "standard input", fault_of_model(trial, text[:at]), text[:at])
 
 
 MODEL_PLACES = (
@@ -118,7 +117,7 @@ def models_in_every_place(trial):
     for label in ("too-long", "no-cell", "repeats"):
         text = broken.models()[label]
         for words, place in MODEL_PLACES:
-            by_file_and_pipe(trial, words, place, label, text, fault_of_model(trial, text))
+            by_file_or_pipe(trial, words, place, label, text, fault_of_model(trial, text))
 
 
 def models_in_inputs(trial):
@@ -130,14 +129,23 @@ def models_in_inputs(trial):
             data = up + target + b"way full\nrun l\n"
             assert trial.model("list", data=data) == trial.model("model", data=text), "the input has the text's own refusal"
             for subcommand in ("list", "generate"):
-                by_file_and_pipe(trial, [subcommand, ""], 1, f"{label}-{before}", data, fault_of_model(trial, text, data, before))
+                by_file_or_pipe(trial, [subcommand, ""], 1, f"{label}-{before}", data, fault_of_model(trial, text, data, before))
 
 
 # ---- numbers
 
+def says_number(before, word, behind):
+    """The number in the sentence may be as it was given, or as it counts."""
+    def says(sentence):
+        number = sentence.removeprefix(before).removesuffix(behind)
+        counts = {int(word), min(int(word), LARGEST)}
+        return sentence == before + number + behind and number.isdecimal() and int(number) in counts
+    return says
+
+
 def numbers(trial):
     for word in ("16", "017", "256", "4294967296", str(LARGEST), str(LARGEST + 1), "9" * 40):
-        fault = Fault(12, 0, f"there is no built-in model {min(int(word), LARGEST)}; the last is 15")
+        fault = Fault(12, 0, says_number("there is no built-in model ", word, "; the last is 15"))
         refused(trial, ["builtin", word], "", fault)
         refused(trial, ["model", f"builtin:{word}"], "", fault)
     fault = Fault(12, 0, "there is no built-in model 16; the last is 15")
@@ -148,7 +156,7 @@ def numbers(trial):
 def states(trial):
     image = trial.file("images/tso-on-arm", image_of(trial, "full", 1, 15))
     for word in ("3", "003", "255", "256", "4294967296", str(LARGEST), str(LARGEST + 1), "9" * 40):
-        fault = Fault(12, 0, f"there is no state {min(int(word), LARGEST)}; the last is 2")
+        fault = Fault(12, 0, says_number("there is no state ", word, "; the last is 2"))
         refused(trial, ["image-run", "--start", word, image, "l"], image, fault)
 
 
@@ -170,21 +178,25 @@ def fault_of_stream(told, stream, upstream_fences, six, whole=None, before=0):
     return Fault(number, place, sentences[number], stream if whole is None else whole, before + place)
 
 
+def manners(trial, label, stream):
+    """How a stream can be given: the word for it, its name in a refusal, the bytes that are shown, standard input."""
+    line = stream + b"\n"  # at a file's end it is no part of the stream
+    file, lined = trial.file(f"bad/stream-{label}", stream), trial.file(f"bad/stream-{label}-line", line)
+    given = [(["@" + file], file, stream, b""), (["@" + lined], lined, line, b""), (["-"], "standard input", line, line),
+             ([], "standard input", stream, stream)]
+    return given if b"\0" in stream else [([stream], "the stream", stream, b""), *given]
+
+
 def wrong_streams(trial):
-    """Streams of TSO on ARM, by direct runs, over the image and in an input, given in each manner."""
+    """Streams of TSO on ARM, by direct runs and over the image, given in each manner by turns."""
     image = trial.file("images/tso-on-arm", image_of(trial, "full", 1, 15))
-    for label, stream in broken.STREAMS.items():
-        file = trial.file(f"bad/stream-{label}", stream)
-        fault = fault_of_stream(trial.model("run", "full", "1", "15", "@" + file), stream, 1, "")
+    for turn, (label, stream) in enumerate(broken.STREAMS.items()):
+        given = manners(trial, label, stream)
+        fault = fault_of_stream(trial.model("run", "full", "1", "15", f"@bad/stream-{label}"), stream, 1, "")
         for begun in (["run", "--way", "full", "1", "15"], ["image-run", "--start", "0", image]):
-            if b"\0" not in stream:
-                refused(trial, [*begun, stream], "the stream", fault)
-            # A line feed at a file's end is no part of the stream.
-            whole = Fault(fault.number, fault.place, fault.sentence, fault.text and stream + b"\n", fault.at)
-            named = trial.file(f"bad/stream-{label}-line", stream + b"\n")
-            refused(trial, [*begun, "@" + named], named, whole)
-        refused(trial, ["run", "--way", "full", "1", "15"], "standard input", whole, stream + b"\n")
-        refused(trial, ["image-run", "--start", "0", image, "-"], "standard input", whole, stream + b"\n")
+            word, name, text, data = given[turn % len(given)]
+            refused(trial, [*begun, *word], name, replace(fault, text=fault.text and text), data)
+            turn += 2
 
 
 def streams_in_inputs(trial):
@@ -192,7 +204,7 @@ def streams_in_inputs(trial):
     for label, stream in broken.STREAMS.items():
         data = models + stream + b"\n"
         fault = fault_of_stream(trial.model("list", data=data), stream, 1, "", data, len(models))
-        by_file_and_pipe(trial, ["list", ""], 1, f"list-{label}", data, fault)
+        by_file_or_pipe(trial, ["list", ""], 1, f"list-{label}", data, fault)
 
 
 def line_feeds(trial):
@@ -223,8 +235,8 @@ def no_fence_will_do(trial):
         refused(trial, ["image-run", "--start", "0", image, stream], "the stream", fault)
         models = up + target + b"way %s\nrun " % way.encode()
         data = models + stream + b"\n"
-        fault = Fault(fault.number, fault.place, fault.sentence, data, len(models) + fault.place)
-        by_file_and_pipe(trial, ["list", ""], 1, f"{label}-input", data, fault)
+        fault = replace(fault, text=data, at=len(models) + fault.place)
+        by_file_or_pipe(trial, ["list", ""], 1, f"{label}-input", data, fault)
 
 
 # ---- machines that are too large
@@ -238,36 +250,24 @@ def too_large(trial):
         assert answer(trial.model("image", "sparing", *files)) == (number, 0), "the pair is over this limit"
         refused(trial, ["generate", "--way", "sparing", *files], " on ".join(files), Fault(number, 0, sentence))
         models = trial.read(files[0]) + trial.read(files[1])
-        too_large_input(trial, upstream, models + b"way sparing\nrun l\n", Fault(number, 0, sentence))
+        for subcommand in ("list", "generate"):
+            data = models + b"way sparing\nrun l\n"
+            by_file_or_pipe(trial, [subcommand, ""], 1, f"{upstream}-input", data, Fault(number, 0, sentence))
     names = ["standard input", files[1]]
     refused(trial, ["generate", "--way", "sparing", "-", files[1]], " on ".join(names), Fault(8, 0, sentence), trial.read(files[0]))
-
-
-def too_large_input(trial, label, data, fault):
-    """In an input the models have no names of their own on the command line: which name is told is left open."""
-    file = trial.file(f"bad/{label}-input", data)
-    for subcommand in ("list", "generate"):
-        ran = trial.run(subcommand, file)
-        trial.check(ran, ran.status == 1 and ran.out == b"", "must be refused, with nothing on standard output")
-        line = f": {fault.sentence} (refused {fault.number} at 0)\n".encode()
-        trial.check(ran, ran.err.startswith(b"shim: ") and ran.err.endswith(line) and ran.err.count(b"\n") == 1, f"must end {line!r}")
 
 
 # ---- inputs of another shape
 
 def shapes(trial):
-    for label, (data, words) in broken.shapes(trial.model("builtin", "1"), trial.model("builtin", "15")).items():
-        file = trial.file(f"bad/shape-{label}", data)
-        for subcommand in ("list", "generate"):
-            for named, given, name in ((file, b"", file), ("-", data, "standard input")):
-                ran = trial.run(subcommand, named, data=given)
-                line = ran.err.split(b"\n")[0].decode("latin-1")
-                holds = line.startswith(f"shim: {name}: ") and line.endswith(" (refused 2 at 0)")
-                trial.check(ran, holds and ran.status == 1 and ran.out == b"", "must be refused with 2 at 0")
-                trial.check(ran, all(word in line for word in words), f"must speak of {words}")
+    """The papers leave the words open, but for what they must speak of; the line and the column are where the shape ends."""
+    for label, (data, at, words) in broken.shapes(trial.model("builtin", "1"), trial.model("builtin", "15")).items():
+        fault = Fault(*answer(trial.model("list", data=data)), lambda told: all(word in told for word in words), data, at)
+        by_file_or_pipe(trial, ["list", ""], 1, f"shape-{label}", data, fault)
+        by_file_or_pipe(trial, ["generate", ""], 1, f"shape-{label}", data, fault)
     data = trial.model("builtin", "1") * 2 + b"way full\nrun " + b"l" * 32768
     for subcommand in ("list", "generate"):
-        by_file_and_pipe(trial, [subcommand, ""], 1, "input-too-long", data, Fault(1, 0, "too long: " + TOO_LONG["input"]))
+        by_file_or_pipe(trial, [subcommand, ""], 1, "input-too-long", data, Fault(1, 0, "too long: " + TOO_LONG["input"]))
 
 
 # ---- images
@@ -299,7 +299,7 @@ def images(trial):
         refused(trial, ["image", file], file, fault_of_image(trial, image))
     for label in ("empty", "too-long", "number", "damaged", "cut", "form"):
         for words, place in ((["image", ""], 1), (["draw", ""], 1), (["image-run", "--start", "0", "", "l"], 3)):
-            by_file_and_pipe(trial, words, place, f"image-{label}", wrong[label], fault_of_image(trial, wrong[label]))
+            by_file_or_pipe(trial, words, place, f"image-{label}", wrong[label], fault_of_image(trial, wrong[label]))
 
 
 # ---- drawings
@@ -312,14 +312,14 @@ def fault_of_drawing(trial, drawing):
 
 
 def drawings(trial):
-    """A byte that stands in no drawing at every second place; cuts; and what was made for the purpose."""
+    """A byte that stands in no drawing, at many places; cuts; and what was made for the purpose."""
     drawing = trial.model("draw", data=image_of(trial, "full", 1, 5))
-    places = [*range(0, 70, 2), *range(70, len(drawing), 9), drawing.index(b"refused"), drawing.index(b"!"), len(drawing) - 2, len(drawing) - 1]
-    wrong = [drawing[:at] + b"*" + drawing[at + 1:] for at in places] + [drawing[:at] for at in range(0, len(drawing), 11)]
+    places = [*range(0, 50, 3), *range(50, len(drawing), 19), drawing.index(b"refused"), drawing.index(b"!"), len(drawing) - 2, len(drawing) - 1]
+    wrong = [drawing[:at] + b"*" + drawing[at + 1:] for at in places] + [drawing[:at] for at in range(0, len(drawing), 37)]
     for text in wrong:
         refused(trial, ["undraw", "-"], "standard input", fault_of_drawing(trial, text), text)
     for label, text in broken.drawings(drawing).items():
-        by_file_and_pipe(trial, ["undraw", ""], 1, f"drawing-{label}", text, fault_of_drawing(trial, text))
+        by_file_or_pipe(trial, ["undraw", ""], 1, f"drawing-{label}", text, fault_of_drawing(trial, text))
 
 
 # ---- which is told first
@@ -360,7 +360,7 @@ def orders_of_machines(trial):
 
 def tried(trial):
     for part in (
-        models, model_at_every_byte, models_in_every_place, models_in_inputs, numbers, states, wrong_streams, streams_in_inputs,
+        models, model_at_many_bytes, models_in_every_place, models_in_inputs, numbers, states, wrong_streams, streams_in_inputs,
         line_feeds, without_fences, no_fence_will_do, too_large, shapes, images, drawings, orders, orders_of_images, orders_of_machines,
     ):
         part(trial)
