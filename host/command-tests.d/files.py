@@ -8,7 +8,7 @@ import subprocess
 import threading
 
 from good import image_of, input_of
-from refusals import standing
+from refused import standing
 
 TSO_OUT = ["builtin", "1"]
 
@@ -22,26 +22,26 @@ def failed(trial, ran, name, what, fault, more=""):
 
 # ---- reading
 
-def places():
-    """Every place in which a file is read, with its words in front and behind."""
-    return [
-        (["model"], []), (["compare"], ["1"]), (["compare", "1"], []), (["run", "--way", "full"], ["15", "l"]), (["run", "--way", "full", "1"], ["l"]),
-        (["generate", "--way", "full"], ["15"]), (["generate", "--way", "full", "1"], []), (["generate"], []), (["image"], []),
-        (["image-run", "--start", "0"], ["l"]), (["list"], []), (["draw"], []), (["undraw"], []),
-    ]
-
-
 def unreadable(trial):
     os.mkdir(trial.path("folder"))
-    cases = [("missing", errno.ENOENT), ("folder", errno.EISDIR), ("missing/file", errno.ENOENT), ("/proc/self/mem", errno.EIO)]
+    cases = [("folder", errno.EISDIR), ("missing/file", errno.ENOENT), ("/proc/self/mem", errno.EIO)]
     if os.geteuid() != 0:
         os.chmod(trial.path(trial.file("locked", b"")), 0)
         cases.append(("locked", errno.EACCES))
     for name, fault in cases:
-        for before, behind in places() if name in ("missing", "folder") else places()[:1]:
-            failed(trial, trial.run(*before, name, *behind), name, "read", fault)
-        for begun in (["run", "--way", "full", "1", "15"], ["image-run", "--start", "0", trial.file("images/tso-on-arm", image_of(trial, "full", 1, 15))]):
-            failed(trial, trial.run(*begun, "@" + name), name, "read", fault)
+        failed(trial, trial.run("model", name), name, "read", fault)
+        failed(trial, trial.run("run", "--way", "full", "1", "15", "@" + name), name, "read", fault)
+
+
+def missing(trial):
+    image = trial.file("images/tso-on-arm", image_of(trial, "full", 1, 15))
+    places = [
+        "model FILE", "compare FILE 1", "compare 1 FILE", "run --way full FILE 15 l", "run --way full 1 FILE l", "run --way full 1 15 @FILE",
+        "generate --way full FILE 15", "generate --way full 1 FILE", "generate FILE", "image FILE", "image-run --start 0 FILE l",
+        f"image-run --start 0 {image} @FILE", "list FILE", "draw FILE", "undraw FILE",
+    ]
+    for place in places:
+        failed(trial, trial.run(*place.replace("FILE", "missing").split()), "missing", "read", errno.ENOENT)
 
 
 def unreadable_input(trial):
@@ -78,9 +78,9 @@ def unwritable(trial):
     for words, data, _ in outputs(trial):
         ran = trial.run(*words, "-o", "missing/out", data=data)
         failed(trial, ran, "missing/out", "written", errno.ENOENT)
-        ran = trial.run(*words, "-o", "folder", data=data)
-        failed(trial, ran, "folder", "written", errno.EISDIR)
-        trial.check(ran, os.listdir(trial.path("folder")) == [], "something is left in the folder")
+    ran = trial.run(*TSO_OUT, "-o", "folder")
+    failed(trial, ran, "folder", "written", errno.EISDIR)
+    trial.check(ran, os.listdir(trial.path("folder")) == [], "something is left in the folder")
     if os.geteuid() != 0:
         os.mkdir(trial.path("closed"), 0o555)
         failed(trial, trial.run(*TSO_OUT, "-o", "closed/out"), "closed/out", "written", errno.EACCES)
@@ -161,14 +161,13 @@ def limited(size):
 
 def half_written(trial):
     """Writing fails half way: the old file stays whole, a new one is not made."""
-    for words, data, written in outputs(trial):
-        for old in ([], [b"old" * 1000]):
-            name = trial.output(*old)
-            before = standing(trial, name)
-            ran = trial.run(*words, "-o", name, data=data, preexec_fn=limited(len(written) // 2))
-            failed(trial, ran, name, "written", errno.EFBIG)
-            trial.check(ran, standing(trial, name) == before, "the output file is not as it was")
-            trial.nothing_left(ran, name)
+    for turn, (words, data, written) in enumerate(outputs(trial)):
+        name = trial.output(*([b"old" * 1000] if turn % 2 else []))
+        before = standing(trial, name)
+        ran = trial.run(*words, "-o", name, data=data, preexec_fn=limited(len(written) // 2))
+        failed(trial, ran, name, "written", errno.EFBIG)
+        trial.check(ran, standing(trial, name) == before, "the output file is not as it was")
+        trial.nothing_left(ran, name)
 
 
 # ---- the file that is written
@@ -253,7 +252,7 @@ def long_inputs(trial):
 
 def tried(trial):
     for part in (
-        unreadable, unreadable_input, forgotten_prefix, unwritable, piped, full_standard_output, numbers_unwritten, closed_standard_output,
+        unreadable, missing, unreadable_input, forgotten_prefix, unwritable, piped, full_standard_output, numbers_unwritten, closed_standard_output,
         half_written, modes, links, circle, over_its_input, plain_name, long_inputs,
     ):
         part(trial)

@@ -149,15 +149,14 @@ def streams(trial):
 # ---- machines
 
 def machines(trial):
-    for upstream, target in ((0, 15), (7, 14), (6, 9), (1, 5)):
-        for way in WAYS:
-            image = image_of(trial, way, upstream, target)
-            name = trial.file(f"images/{upstream}-{target}-{way}", image)
-            trial.is_done(trial.run("generate", "--way", way, str(upstream), str(target)), image)
-            trial.is_done(trial.run("image", name), told_of_image(image))
-            data = input_of(trial, way, upstream, target, "sLSl")
-            trial.is_done(trial.run("list", trial.file(name + ".input", data)), trial.model("list", data=data))
-            trial.is_done(trial.run("draw", name), trial.model("draw", data=image))
+    for upstream, target, way in ((0, 15, "full"), (7, 14, "sparing"), (7, 14, "full"), (6, 9, "sparing"), (1, 5, "full")):
+        image = image_of(trial, way, upstream, target)
+        name = trial.file(f"images/{upstream}-{target}-{way}", image)
+        trial.is_done(trial.run("generate", "--way", way, str(upstream), str(target)), image)
+        trial.is_done(trial.run("image", name), told_of_image(image))
+        data = input_of(trial, way, upstream, target, "sLSl")
+        trial.is_done(trial.run("list", trial.file(name + ".input", data)), trial.model("list", data=data))
+        trial.is_done(trial.run("draw", name), trial.model("draw", data=image))
 
 
 def machines_at_the_limits(trial):

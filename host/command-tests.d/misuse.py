@@ -15,8 +15,8 @@ RIGHT = {
 # The kinds of misuse: subcommand and words.
 KINDS = [
     # --way missing or another word
-    ("run", "1 15 l"), ("run", "--way fast 1 15 l"), ("run", "--way"), ("run", "1 15 l --way"), ("run", "--way 1 1 15 l"), ("run", "--way Full 1 15 l"),
-    ("generate", "1 15"), ("generate", "--way slow 1 15"), ("generate", "--way full INPUT"),
+    ("run", "1 15 l"), ("run", "--way fast 1 15 l"), ("run", "--way"), ("run", "1 15 l --way"), ("run", "--way 1 1 15 l"),
+    ("run", "--way Full 1 15 l"), ("generate", "1 15"), ("generate", "--way slow 1 15"), ("generate", "--way full INPUT"),
     # --start missing or no digits
     ("image-run", "IMAGE l"), ("image-run", "--start x IMAGE l"), ("image-run", "--start 1x IMAGE l"), ("image-run", "--start -1 IMAGE l"),
     ("image-run", "--start +1 IMAGE l"), ("image-run", "--start 0x1 IMAGE l"), ("image-run", "IMAGE l --start"),

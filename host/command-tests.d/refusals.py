@@ -1,85 +1,11 @@
-"""Bad input: number and place by the model, the sentence, the line and the caret by the papers, and nothing written."""
-import os
+"""Bad input: number and place by the model, the sentence by the papers, one call for each thing that can be wrong."""
 import re
-from dataclasses import dataclass, replace
-from typing import Any
+from dataclasses import replace
 
 import broken
 from good import image_of, model_file
-from papers import LARGEST, changed, escaped, line_and_column, says_not_of_the_form, shows_place
-
-WITH_OUTPUT = ("builtin", "model", "run", "generate", "image-run", "list", "draw", "undraw")
-TOO_LONG = {
-    "model": "a model's text has at most 1024 bytes", "stream": "a stream has at most 4096 operations",
-    "image": "an image has at most 7168 bytes", "drawing": "a drawing has at most 262144 bytes",
-    "input": "an input has at most 32768 bytes",
-}
-
-
-@dataclass
-class Fault:
-    """A refusal as it must be told: the text and the place in it only where a line is to be shown."""
-    number: int
-    place: int
-    sentence: Any  # its words, or a test of them
-    text: Any = None
-    at: int = 0
-
-
-def answer(told):
-    """The number and the place of a refusal that the model tells."""
-    found = re.fullmatch(rb"refused (\d+) at (\d+)\n", told)
-    assert found, f"the model does not refuse: {told!r}"
-    return int(found.group(1)), int(found.group(2))
-
-
-# ---- the check of a refusal
-
-def is_told(trial, ran, name, fault):
-    head = "shim: " + (f"{name}: " if name else "")
-    if fault.text is not None:
-        head += "line %d, column %d: " % line_and_column(fault.text, fault.at)
-    tail = f" (refused {fault.number} at {fault.place})"
-    line, _, rest = ran.err.partition(b"\n")
-    line = line.decode("latin-1")
-    framed = line.startswith(head) and line.endswith(tail) and len(line) > len(head) + len(tail)
-    trial.check(ran, framed, f"must be told as: {head}...{tail}")
-    sentence = line[len(head):len(line) - len(tail)]
-    right = fault.sentence(sentence) if callable(fault.sentence) else sentence == fault.sentence
-    trial.check(ran, right, f"the sentence is: {sentence}", "" if callable(fault.sentence) else f"and must be: {fault.sentence}")
-    shows = rest == b"" if fault.text is None else shows_place(rest, fault.text, fault.at)
-    trial.check(ran, shows, "the line or the caret is not right")
-
-
-def standing(trial, name):
-    """All of an output file that a refusal must leave as it is; nothing where there is none."""
-    if not os.path.exists(trial.path(name)):
-        return None
-    status = os.stat(trial.path(name))
-    return trial.read(name), status.st_mode, status.st_ino, status.st_mtime_ns
-
-
-def refused(trial, words, name, fault, data=b""):
-    """The call is refused, tells it and writes nothing, neither to a new output file nor over an old one."""
-    out = trial.output(*([b"old"] if trial.calls % 2 else []))
-    before = standing(trial, out)
-    if words[0] in WITH_OUTPUT:
-        words = [*words, "-o", out]
-    ran = trial.run(*words, data=data)
-    trial.check(ran, ran.status == 1 and ran.out == b"", "must be refused, with nothing on standard output")
-    is_told(trial, ran, name, fault)
-    if out in words:
-        trial.check(ran, standing(trial, out) == before, "the output file is not as it was")
-        trial.nothing_left(ran, out)
-
-
-def by_file_or_pipe(trial, words, place, label, data, fault):
-    """An input that is wrong, as a file and on standard input by turns. `words[place]` is where it stands."""
-    if trial.calls // 2 % 2:
-        refused(trial, words[:place] + ["-"] + words[place + 1:], "standard input", fault, data)
-    else:
-        file = trial.file(f"bad/{label}", data)
-        refused(trial, words[:place] + [file] + words[place + 1:], file, fault)
+from papers import LARGEST, changed, escaped, says_not_of_the_form
+from refused import TOO_LONG, Fault, answer, by_file_or_pipe, refused
 
 
 # ---- models
@@ -102,7 +28,7 @@ def models(trial):
 
 def model_at_many_bytes(trial):
     text = trial.model("builtin", "1")
-    for wrong in [text[:at] + b"*" + text[at + 1:] for at in range(0, len(text), 2)] + [text[:at] for at in range(1, len(text), 4)]:
+    for wrong in [text[:at] + b"*" + text[at + 1:] for at in range(0, len(text), 3)] + [text[:at] for at in range(1, len(text), 7)]:
         refused(trial, ["model", "-"], "standard input", fault_of_model(trial, wrong), wrong)
 
 
@@ -314,8 +240,8 @@ def fault_of_drawing(trial, drawing):
 def drawings(trial):
     """A byte that stands in no drawing, at many places; cuts; and what was made for the purpose."""
     drawing = trial.model("draw", data=image_of(trial, "full", 1, 5))
-    places = [*range(0, 50, 3), *range(50, len(drawing), 19), drawing.index(b"refused"), drawing.index(b"!"), len(drawing) - 2, len(drawing) - 1]
-    wrong = [drawing[:at] + b"*" + drawing[at + 1:] for at in places] + [drawing[:at] for at in range(0, len(drawing), 37)]
+    places = [*range(0, 50, 5), *range(50, len(drawing), 41), drawing.index(b"refused"), drawing.index(b"!"), len(drawing) - 2, len(drawing) - 1]
+    wrong = [drawing[:at] + b"*" + drawing[at + 1:] for at in places] + [drawing[:at] for at in range(0, len(drawing), 61)]
     for text in wrong:
         refused(trial, ["undraw", "-"], "standard input", fault_of_drawing(trial, text), text)
     for label, text in broken.drawings(drawing).items():
