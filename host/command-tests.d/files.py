@@ -187,30 +187,38 @@ def modes(trial):
         trial.check(ran, stat.S_IMODE(os.stat(trial.path(name)).st_mode) == 0o666 & ~umask, f"the mode must be the umask's, {umask:o}")
 
 
+def linked(trial, *old):
+    """An output file, a symbolic link to it and one to that link, each in a folder of its own."""
+    name, link, second = trial.output(*old), trial.output(), trial.output()
+    os.symlink("../../" + name, trial.path(link))
+    os.symlink("../../" + link, trial.path(second))
+    return name, link, second
+
+
 def links(trial):
     """A symbolic link stays one, and the file that it names is written, in its own folder."""
-    for old in ([b"old"], []):
-        name, link, second = trial.output(*old), trial.output(), trial.output()
-        os.symlink("../../" + name, trial.path(link))
-        os.symlink("../" + link[4:], trial.path(second))
-        for word in (link, second):
-            ran = trial.run(*TSO_OUT, "-o", word)
-            trial.is_done(ran, b"")
-            trial.check(ran, os.path.islink(trial.path(word)), "the link is gone")
-            trial.is_written(ran, name, trial.model("builtin", "1"))
-            trial.nothing_left(ran, link, second)
+    name, *names = linked(trial, b"old")
+    for link in names:
+        ran = trial.run(*TSO_OUT, "-o", link)
+        trial.is_done(ran, b"")
+        trial.is_written(ran, name, trial.model("builtin", "1"))
+        trial.check(ran, os.path.islink(trial.path(link)), "the link is gone")
+        trial.nothing_left(ran, *names)
     before = standing(trial, name)
-    ran = trial.run("builtin", "16", "-o", second)
-    trial.check(ran, ran.status == 1 and standing(trial, name) == before and os.path.islink(trial.path(second)), "must stay as it was")
+    ran = trial.run("builtin", "16", "-o", link)
+    trial.check(ran, ran.status == 1 and standing(trial, name) == before and os.path.islink(trial.path(link)), "must stay as it was")
 
 
-def circle(trial):
-    """A symbolic link that names itself."""
-    name = trial.output()
-    os.symlink("file", trial.path(name))
-    ran = trial.run(*TSO_OUT, "-o", name)
-    failed(trial, ran, name, "written", errno.ELOOP)
-    trial.nothing_left(ran, name)
+def dangling_links(trial):
+    """What a link names must be there: nothing is made."""
+    name, *names = linked(trial)
+    circle = trial.output()
+    os.symlink("file", trial.path(circle))
+    for link, fault in (*((link, errno.ENOENT) for link in names), (circle, errno.ELOOP)):
+        ran = trial.run(*TSO_OUT, "-o", link)
+        failed(trial, ran, link, "written", fault)
+        trial.check(ran, os.path.islink(trial.path(link)) and not os.path.exists(trial.path(name)), "must stay as it was")
+        trial.nothing_left(ran, name, link)
 
 
 def over_its_input(trial):
@@ -253,6 +261,6 @@ def long_inputs(trial):
 def tried(trial):
     for part in (
         unreadable, missing, unreadable_input, forgotten_prefix, unwritable, piped, full_standard_output, numbers_unwritten, closed_standard_output,
-        half_written, modes, links, circle, over_its_input, plain_name, long_inputs,
+        half_written, modes, links, dangling_links, over_its_input, plain_name, long_inputs,
     ):
         part(trial)

@@ -118,8 +118,8 @@ def stream_inputs(trial, begun, told):
     for number, data in enumerate((stream.encode(), stream.encode() + b"\n")):
         file = trial.file(f"streams/{number}", data)
         trial.is_done(trial.run(*begun, "@" + file), out)
-        trial.is_done(trial.run(*begun, "-", data=data), out)
-        trial.is_done(trial.run(*begun, data=data), out)
+        for word in ([], ["-"], ["@-"]):
+            trial.is_done(trial.run(*begun, *word, data=data), out)
     trial.is_done(trial.run(*begun, stream), out)
     empty = lines_of(told(""))
     for number, data in enumerate((b"", b"\n")):

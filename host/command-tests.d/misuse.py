@@ -33,6 +33,7 @@ KINDS = [
     # standard input twice
     ("compare", "- -"), ("run", "--way full - - l"), ("run", "--way full - 15"), ("run", "--way full 1 -"), ("run", "--way full - 15 -"),
     ("generate", "--way full - -"), ("image-run", "--start 0 -"), ("image-run", "--start 0 - -"),
+    ("image-run", "--start 0 - @-"), ("run", "--way full 1 - @-"),
 ]
 
 
@@ -122,10 +123,11 @@ def terminals(trial):
 
 
 def helps(trial):
-    ran = trial.run("--help")
-    trial.check(ran, ran.status == 0 and ran.err == b"" and all_stand(ran.out.decode(), SYNOPSIS), "must print all usages")
+    for word in ("--help", "-h"):
+        ran = trial.run(word)
+        trial.check(ran, ran.status == 0 and ran.err == b"" and all_stand(ran.out.decode(), SYNOPSIS), "must print all usages")
     for turn, (subcommand, words) in enumerate(RIGHT.items()):
-        ran = trial.run(subcommand, *(words if turn % 2 else []), "--help")
+        ran = trial.run(subcommand, *(words if turn % 2 else []), "-h" if turn % 3 else "--help")
         trial.check(ran, ran.status == 0 and ran.err == b"" and all_stand(ran.out.decode(), [subcommand]), "must print the usage")
 
 

@@ -1,5 +1,4 @@
 """Bad input: number and place by the model, the sentence by the papers, one call for each thing that can be wrong."""
-import re
 from dataclasses import replace
 
 import broken
@@ -60,18 +59,10 @@ def models_in_inputs(trial):
 
 # ---- numbers
 
-def says_number(before, word, behind):
-    """The number in the sentence may be as it was given, or as it counts."""
-    def says(sentence):
-        number = sentence.removeprefix(before).removesuffix(behind)
-        counts = {int(word), min(int(word), LARGEST)}
-        return sentence == before + number + behind and number.isdecimal() and int(number) in counts
-    return says
-
-
 def numbers(trial):
+    """A number is shown as it was typed, and one of more than 64 bits counts as the largest."""
     for word in ("16", "017", "256", "4294967296", str(LARGEST), str(LARGEST + 1), "9" * 40):
-        fault = Fault(12, 0, says_number("there is no built-in model ", word, "; the last is 15"))
+        fault = Fault(12, 0, f"there is no built-in model {word}; the last is 15")
         refused(trial, ["builtin", word], "", fault)
         refused(trial, ["model", f"builtin:{word}"], "", fault)
     fault = Fault(12, 0, "there is no built-in model 16; the last is 15")
@@ -82,7 +73,7 @@ def numbers(trial):
 def states(trial):
     image = trial.file("images/tso-on-arm", image_of(trial, "full", 1, 15))
     for word in ("3", "003", "255", "256", "4294967296", str(LARGEST), str(LARGEST + 1), "9" * 40):
-        fault = Fault(12, 0, says_number("there is no state ", word, "; the last is 2"))
+        fault = Fault(12, 0, f"there is no state {word}; the last is 2")
         refused(trial, ["image-run", "--start", word, image, "l"], image, fault)
 
 
@@ -109,7 +100,7 @@ def manners(trial, label, stream):
     line = stream + b"\n"  # at a file's end it is no part of the stream
     file, lined = trial.file(f"bad/stream-{label}", stream), trial.file(f"bad/stream-{label}-line", line)
     given = [(["@" + file], file, stream, b""), (["@" + lined], lined, line, b""), (["-"], "standard input", line, line),
-             ([], "standard input", stream, stream)]
+             ([], "standard input", stream, stream), (["@-"], "standard input", line, line)]
     return given if b"\0" in stream else [([stream], "the stream", stream, b""), *given]
 
 
@@ -135,7 +126,7 @@ def streams_in_inputs(trial):
 
 def line_feeds(trial):
     """Only one line feed at a file's end is left out, and none of an argument."""
-    sentence = lambda told: re.fullmatch(r"'(\\n|\\x0A)' is no operation; operations are l, L, s, S, 0 to 9 and A to F", told)
+    sentence = r"'\n' is no operation; operations are l, L, s, S, 0 to 9 and A to F"
     begun = ["run", "--way", "full", "1", "15"]
     refused(trial, [*begun, b"ss\n"], "the stream", Fault(4, 2, sentence, b"ss\n", 2))
     refused(trial, begun, "standard input", Fault(4, 2, sentence, b"ss\n\n", 2), b"ss\n\n")
