@@ -84,6 +84,8 @@ def comparisons(trial):
         trial.is_done(trial.run("compare", str(first), str(second)), told)
     trial.is_done(trial.run("compare", "-", "builtin:SC", data=trial.model("builtin", "1")), b"second stronger\n")
     trial.is_done(trial.run("compare", "builtin:TSO", "-", data=trial.model("builtin", "1")), b"equal\n")
+    # As a model this is a file's name; a stream that is given so is standard input.
+    trial.is_done(trial.run("compare", trial.file("@-", BARE), "@-"), b"equal\n")
 
 
 # ---- streams
