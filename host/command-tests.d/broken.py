@@ -77,13 +77,15 @@ def shapes(up, target):
         "empty": (b"", 0, ["end"]),
         "no-end": (up[:-4], len(up) - 4, ["end"]),
         "one-end": (up + target[:-4], len(both) - 4, ["end"]),
-        "end-with-return": (returns, len(returns), ["end"]),
+        "end-with-return": (returns, len(returns), ["end", "; lines end in a line feed alone"]),
         "no-way": (both + b"run l\n", len(both), ["way full", "way sparing"]),
         "cut-before-way": (both, len(both), ["way full", "way sparing"]),
         "another-way": (both + b"way fast\nrun l\n", len(both), ["way full", "way sparing"]),
         "no-run": (both + way, len(both + way), ["run "]),
         "another-run": (both + way + b"runs l\n", len(both + way), ["run "]),
         "no-line-feed": (both + way + b"run l", len(both + way) + 5, ["line feed"]),
+        # Only here can bytes that are not shown as they are stand before the caret.
+        "escapes": (both + way + b"run l\t\x01\xff\\", len(both + way) + 9, ["line feed"]),
         "more": (both + way + b"run l\nl\n", len(both + way) + 6, ["nothing may follow"]),
     }
 

@@ -78,9 +78,12 @@ def unwritable(trial):
     for words, data, _ in outputs(trial):
         ran = trial.run(*words, "-o", "missing/out", data=data)
         failed(trial, ran, "missing/out", "written", errno.ENOENT)
-    ran = trial.run(*TSO_OUT, "-o", "folder")
-    failed(trial, ran, "folder", "written", errno.EISDIR)
-    trial.check(ran, os.listdir(trial.path("folder")) == [], "something is left in the folder")
+    name = trial.output()
+    os.mkdir(trial.path(name))
+    ran = trial.run(*TSO_OUT, "-o", name)
+    failed(trial, ran, name, "written", errno.EISDIR)
+    trial.check(ran, os.listdir(trial.path(name)) == [], "something is left in the folder")
+    trial.nothing_left(ran, name)
     if os.geteuid() != 0:
         os.mkdir(trial.path("closed"), 0o555)
         failed(trial, trial.run(*TSO_OUT, "-o", "closed/out"), "closed/out", "written", errno.EACCES)

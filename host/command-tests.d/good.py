@@ -84,6 +84,8 @@ def comparisons(trial):
         trial.is_done(trial.run("compare", str(first), str(second)), told)
     trial.is_done(trial.run("compare", "-", "builtin:SC", data=trial.model("builtin", "1")), b"second stronger\n")
     trial.is_done(trial.run("compare", "builtin:TSO", "-", data=trial.model("builtin", "1")), b"equal\n")
+    # As a model this is a file's name; a stream that is given so is standard input.
+    trial.is_done(trial.run("compare", trial.file("@-", BARE), "@-"), b"equal\n")
 
 
 # ---- streams
@@ -194,27 +196,31 @@ def lists(trial):
 
 
 def chain(trial):
-    """From models to an image, a thread over it in parts, its drawing and the same image again, all through files."""
+    """From models to an image, its drawing and the same image again, all through files."""
     image, drawing, again = trial.output(), trial.output(), trial.output()
-    ran = trial.run("generate", "--way", "sparing", "builtin:TSO", "builtin:RMO", "-o", image)
-    trial.is_done(ran, b"")
-    trial.is_written(ran, image, image_of(trial, "sparing", 1, 13))
-    trial.is_done(trial.run("image", image), told_of_image(trial.read(image)))
-    whole = "llsls0lLsS0ss"
-    direct = lines_of(trial.model("run", "sparing", "1", "13", whole), quiet=True).strip()
-    state, out = "0", b""
-    for cut in range(0, len(whole), 4):
-        told = trial.model("image-run", state, whole[cut:cut + 4], data=trial.read(image))
-        ran = trial.run("image-run", image, "--start", state, whole[cut:cut + 4])
-        trial.is_done(ran, lines_of(told))
+    sound = image_of(trial, "sparing", 1, 13)
+    for words, name, written in (
+        (["generate", "--way", "sparing", "builtin:TSO", "builtin:RMO"], image, sound),
+        (["draw", image], drawing, trial.model("draw", data=sound)), (["undraw", drawing], again, sound),
+    ):
+        ran = trial.run(*words, "-o", name)
+        trial.is_done(ran, b"")
+        trial.is_written(ran, name, written)
+    trial.is_done(trial.run("image", again), told_of_image(sound))
+
+
+def thread(trial):
+    """A thread in parts over an image: each begins in the state that the command told last, and all together are the direct run."""
+    image = trial.file("images/tso-on-rmo", image_of(trial, "sparing", 1, 13))
+    stream, state, out = "llsls0lLsS0ss", "0", b""
+    for cut in range(0, len(stream), 4):
+        part = stream[cut:cut + 4]
+        ran = trial.run("image-run", image, "--start", state, part)
+        if not trial.is_done(ran, lines_of(trial.model("image-run", state, part, data=trial.read(image)))):
+            return
         out, state = out + ran.out.split(b"\n")[0], ran.out.split()[-1].decode()
+    direct = lines_of(trial.model("run", "sparing", "1", "13", stream), quiet=True).strip()
     trial.check(ran, out == direct, f"the parts give {out}, the whole {direct}")
-    ran = trial.run("draw", image, "-o", drawing)
-    trial.is_done(ran, b"")
-    trial.is_written(ran, drawing, trial.model("draw", data=trial.read(image)))
-    ran = trial.run("undraw", drawing, "-o", again)
-    trial.is_done(ran, b"")
-    trial.is_written(ran, again, trial.read(image))
 
 
 def renamed(trial):
@@ -267,6 +273,6 @@ def output_options(trial):
 def tried(trial):
     for part in (
         builtins, names, models, comparisons, document_streams, runs, runs_of_fullest, streams, machines,
-        machines_at_the_limits, generated_from_inputs, lists, chain, renamed, option_orders, output_options,
+        machines_at_the_limits, generated_from_inputs, lists, chain, thread, renamed, option_orders, output_options,
     ):
         part(trial)

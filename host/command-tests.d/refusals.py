@@ -170,6 +170,8 @@ def too_large(trial):
         for subcommand in ("list", "generate"):
             data = models + b"way sparing\nrun l\n"
             by_file_or_pipe(trial, [subcommand, ""], 1, f"{upstream}-input", data, Fault(number, 0, sentence))
+    long = ["./" * 400 + file for file in files]
+    refused(trial, ["generate", "--way", "sparing", *long], " on ".join(long), Fault(8, 0, sentence))
     names = ["standard input", files[1]]
     refused(trial, ["generate", "--way", "sparing", "-", files[1]], " on ".join(names), Fault(8, 0, sentence), trial.read(files[0]))
 
