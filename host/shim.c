@@ -19,18 +19,16 @@
 #error "shim.h does not say its version"
 #endif
 
-/* The options beside --help and --version, the letters that getopt knows them by, and what was given behind each. */
-enum { WAY, START, OUTPUT, QUIET, OPTIONS };
-static const char letters[] = "wsoq";
-static const char *const written[OPTIONS] = {"--way", "--start", "-o", "-q"};
-static const char *given[OPTIONS];
+/* The options: what getopt tells for each, a number where it has no letter, and what was given behind it. */
+enum { WAY = 1, START, VERSION, OUTPUT = 'o', QUIET = 'q', HELP = 'h', HIGHEST = 'z' };
+static const char *given[HIGHEST];
 
 struct subcommand {
     const char *name, *words, *does;
-    void (*make)(char **operands, int count);
-    const char *options; /* the letters of those that it takes */
-    int least, most;     /* operands */
-    int stream;          /* is the last operand, which may be missing, a stream? */
+    void (*make)(char **operands); /* behind the last stands NULL */
+    const char *options;           /* those that it takes, beside help and version */
+    int least, most;               /* operands */
+    int stream;                    /* is the last operand, which may be missing, a stream? */
 };
 
 static const struct subcommand *current;
@@ -70,7 +68,7 @@ static void tell_numbers(int with_state)
     flush_standard_output();
 }
 
-/* An output stream is a line; `out` has room for its line feed. A file is written last, when nothing else can go wrong. */
+/* An output stream is a line; `out` has room for its line feed. A file is written last, when nothing can go wrong. */
 static void write_stream(uint8_t *out, int with_state)
 {
     out[answer.written++] = '\n';
@@ -96,13 +94,24 @@ static struct parts parts_of(const struct input *input)
     return parts;
 }
 
+/* Three calls want more stack than a small limit leaves, and would end by a signal. */
+static void need_stack(void)
+{
+    enum { NEEDED = SHIM_STACK_GENERATE + SHIM_STACK_OTHERS };
+    struct rlimit stack;
+    if (getrlimit(RLIMIT_STACK, &stack) != 0 || stack.rlim_cur >= NEEDED)
+        return;
+    stack.rlim_cur = NEEDED;
+    if (setrlimit(RLIMIT_STACK, &stack) != 0)
+        cannot("the stack", "made as large as the call wants", "; see ulimit -s");
+}
+
 /* ---- the subcommands, in the order of shim.h */
 
-static void make_builtin(char **operands, int count)
+static void make_builtin(char **operands)
 {
     static uint8_t out[SHIM_TEXT_OUT];
     uint64_t number;
-    (void)count;
     if (!is_number(operands[0], &number))
         misuse("%s: is no number", operands[0]);
     if (shim_builtin(number, out, sizeof out, &answer) != SHIM_DONE)
@@ -110,11 +119,10 @@ static void make_builtin(char **operands, int count)
     write_answered(out);
 }
 
-static void make_model(char **operands, int count)
+static void make_model(char **operands)
 {
     static uint8_t out[SHIM_TEXT_OUT];
     struct input text = model_input(operands[0], 0);
-    (void)count;
     if (shim_model(text.at, text.length, out, sizeof out, &answer) != SHIM_DONE) {
         judge_model(&text);
         refuse_rest(text.name, &answer);
@@ -122,7 +130,7 @@ static void make_model(char **operands, int count)
     write_answered(out);
 }
 
-static void make_compare(char **operands, int count)
+static void make_compare(char **operands)
 {
     static const char *const relations[] = {
         [SHIM_EQUAL] = "equal\n",
@@ -132,7 +140,6 @@ static void make_compare(char **operands, int count)
     };
     struct input first = model_input(operands[0], 0), second = model_input(operands[1], 0);
     uint64_t relation;
-    (void)count;
     if (shim_compare(first.at, first.length, second.at, second.length, &relation, &answer) != SHIM_DONE) {
         judge_model(&first);
         judge_model(&second);
@@ -141,12 +148,12 @@ static void make_compare(char **operands, int count)
     write_output(NULL, relations[relation], strlen(relations[relation]));
 }
 
-static void make_run(char **operands, int count)
+static void make_run(char **operands)
 {
     static uint8_t out[SHIM_RUN_OUT + 1];
     uint64_t way = way_given();
     struct input upstream = model_input(operands[0], 0), target = model_input(operands[1], 1);
-    struct input stream = stream_input(count > 2 ? operands[2] : NULL);
+    struct input stream = stream_input(operands[2]);
     if (shim_run(way, upstream.at, upstream.length, target.at, target.length, stream.at, stream.length, out,
                  SHIM_RUN_OUT, &answer) != SHIM_DONE) {
         judge_model(&upstream);
@@ -161,6 +168,7 @@ static void make_run(char **operands, int count)
 static void generate(const char *name, uint64_t way, const struct input *upstream, const struct input *target)
 {
     static uint8_t out[SHIM_IMAGE_LIMIT];
+    need_stack();
     if (shim_generate(way, upstream->at, upstream->length, target->at, target->length, out, sizeof out, &answer) !=
         SHIM_DONE) {
         judge_model(upstream);
@@ -170,12 +178,13 @@ static void generate(const char *name, uint64_t way, const struct input *upstrea
     write_answered(out);
 }
 
-static void make_generate(char **operands, int count)
+static void make_generate(char **operands)
 {
-    if (count == 1 && given[WAY] != NULL)
+    int one = operands[1] == NULL;
+    if (one && given[WAY] != NULL)
         misuse("an input has its own way");
     no_image_to_terminal();
-    if (count == 1) {
+    if (one) {
         struct input input = file_input(operands[0], SHIM_LIST_INPUT_LIMIT);
         struct parts parts = parts_of(&input);
         generate(input.name, parts.way, &parts.upstream, &parts.target);
@@ -199,10 +208,9 @@ static void tell_side(const char *side, const uint8_t *name, uint64_t fences)
     tell_count(fences, "fence");
 }
 
-static void make_image(char **operands, int count)
+static void make_image(char **operands)
 {
     struct input image = file_input(operands[0], SHIM_IMAGE_LIMIT);
-    (void)count;
     judge_image(&image, header);
     printf("form      %d\nway       %s\n", image.at[2], header[0] == SHIM_FULL ? "full" : "sparing");
     printf("states    %d\n", (int)header[1]);
@@ -215,7 +223,7 @@ static void make_image(char **operands, int count)
         printf("%02X%02X%s", image.at[check], image.at[check + 1], check + 512 < image.length ? " " : ", all right\n");
 }
 
-static void make_image_run(char **operands, int count)
+static void make_image_run(char **operands)
 {
     static uint8_t out[SHIM_IMAGE_RUN_OUT + 1];
     uint64_t start;
@@ -224,7 +232,7 @@ static void make_image_run(char **operands, int count)
     if (!is_number(given[START], &start))
         misuse("%s: is no number", given[START]);
     struct input image = file_input(operands[0], SHIM_IMAGE_LIMIT);
-    struct input stream = stream_input(count > 1 ? operands[1] : NULL);
+    struct input stream = stream_input(operands[1]);
     if (shim_image_run(image.at, image.length, start, stream.at, stream.length, out, SHIM_IMAGE_RUN_OUT, &answer) !=
         SHIM_DONE) {
         judge_image(&image, header);
@@ -237,11 +245,11 @@ static void make_image_run(char **operands, int count)
     write_stream(out, 1);
 }
 
-static void make_list(char **operands, int count)
+static void make_list(char **operands)
 {
     static uint8_t out[SHIM_LIST_OUT];
     struct input input = file_input(operands[0], SHIM_LIST_INPUT_LIMIT);
-    (void)count;
+    need_stack();
     if (shim_list(input.at, input.length, out, sizeof out, &answer) != SHIM_DONE) {
         struct parts parts = parts_of(&input);
         judge_model(&parts.upstream);
@@ -253,11 +261,11 @@ static void make_list(char **operands, int count)
     write_answered(out);
 }
 
-static void make_draw(char **operands, int count)
+static void make_draw(char **operands)
 {
     static uint8_t out[SHIM_DRAWING_OUT];
     struct input image = file_input(operands[0], SHIM_IMAGE_LIMIT);
-    (void)count;
+    need_stack();
     if (shim_draw(image.at, image.length, out, sizeof out, &answer) != SHIM_DONE) {
         judge_image(&image, header);
         refuse_rest(image.name, &answer);
@@ -265,10 +273,9 @@ static void make_draw(char **operands, int count)
     write_answered(out);
 }
 
-static void make_undraw(char **operands, int count)
+static void make_undraw(char **operands)
 {
     static uint8_t out[SHIM_IMAGE_LIMIT];
-    (void)count;
     no_image_to_terminal();
     struct input drawing = file_input(operands[0], SHIM_DRAWING_LIMIT);
     if (shim_undraw(drawing.at, drawing.length, out, sizeof out, &answer) != SHIM_DONE) {
@@ -288,10 +295,11 @@ static const struct subcommand subcommands[] = {
     {"builtin", "[-o FILE] NUMBER", "the text of a built-in model", make_builtin, "o", 1, 1, 0},
     {"model", "[-o FILE] MODEL", "a model's text, read and written back", make_model, "o", 1, 1, 0},
     {"compare", "MODEL MODEL", "which of two models is stronger", make_compare, "", 2, 2, 0},
-    {"run", RUN, "a stream with its fences", make_run, "woq", 2, 3, 1},
-    {"generate", GENERATE, "the image of the smallest machine", make_generate, "wo", 1, 2, 0},
+    {"run", RUN, "a stream with its fences", make_run, (const char[]){WAY, OUTPUT, QUIET, 0}, 2, 3, 1},
+    {"generate", GENERATE, "the image of the smallest machine", make_generate, (const char[]){WAY, OUTPUT, 0}, 1, 2, 0},
     {"image", "IMAGE", "an image's header, size and checks", make_image, "", 1, 1, 0},
-    {"image-run", IMAGE_RUN, "a stream's run over an image", make_image_run, "soq", 1, 2, 1},
+    {"image-run", IMAGE_RUN, "a stream's run over an image", make_image_run, (const char[]){START, OUTPUT, QUIET, 0},
+     1, 2, 1},
     {"list", "[-o FILE] INPUT", "the machine and the run of an input", make_list, "o", 1, 1, 0},
     {"draw", "[-o FILE] IMAGE", "an image's drawing, for Graphviz", make_draw, "o", 1, 1, 0},
     {"undraw", "[-o FILE] DRAWING", "a drawing's image", make_undraw, "o", 1, 1, 0},
@@ -342,36 +350,50 @@ ENDS static void tell_version(void)
     exit(DONE);
 }
 
-/* `word` is the one that was looked at last; of several letters behind one dash, optopt is the one that is not known. */
-static void take_option(int letter, const char *word)
+static const struct option names[] = {
+    {"way", required_argument, NULL, WAY},
+    {"start", required_argument, NULL, START},
+    {"output", required_argument, NULL, OUTPUT},
+    {"quiet", no_argument, NULL, QUIET},
+    {"help", no_argument, NULL, HELP},
+    {"version", no_argument, NULL, VERSION},
+    {NULL, 0, NULL, 0},
+};
+
+/* The long name of an option, NULL if there is none. */
+static const char *name_of(int option)
 {
-    if (letter == 'h')
+    const struct option *known = names;
+    while (known->name != NULL && known->val != option)
+        known++;
+    return known->name;
+}
+
+/* `word` is the one that getopt has passed last. It stopped at a letter that it does not know, or else in that word. */
+ENDS static void refuse_option(int letter, const char *word)
+{
+    if (letter != 0 && name_of(letter) == NULL)
+        misuse("-%c: there is no such option", letter);
+    misuse("%s: there is no such option", word);
+}
+
+static void take_option(int option, const char *word)
+{
+    if (option == HELP)
         tell_help();
-    if (letter == 'v')
+    if (option == VERSION)
         tell_version();
-    if (letter == ':')
-        misuse("%s wants a word behind it", written[strchr(letters, optopt) - letters]);
-    if (letter == '?' && strncmp(word, "--", 2) == 0)
-        misuse("%s: there is no such option", word);
-    if (letter == '?')
-        misuse("-%c: there is no such option", optopt);
-    int option = (int)(strchr(letters, letter) - letters);
-    if (strchr(current->options, letter) == NULL)
-        misuse("%s has no option %s", current->name, written[option]);
+    if (option == ':')
+        misuse("--%s wants a word behind it", name_of(optopt));
+    if (option == '?')
+        refuse_option(optopt, word);
+    if (strchr(current->options, option) == NULL)
+        misuse("%s has no option --%s", current->name, name_of(option));
     given[option] = option == QUIET ? "" : optarg;
 }
 
 static void take_options(int count, char **words)
 {
-    static const struct option names[] = {
-        {"way", required_argument, NULL, 'w'},
-        {"start", required_argument, NULL, 's'},
-        {"output", required_argument, NULL, 'o'},
-        {"quiet", no_argument, NULL, 'q'},
-        {"help", no_argument, NULL, 'h'},
-        {"version", no_argument, NULL, 'v'},
-        {NULL, 0, NULL, 0},
-    };
     int option;
     opterr = 0;
     while ((option = getopt_long(count, words, ":o:qh", names, NULL)) != -1)
@@ -392,21 +414,8 @@ static void count_operands(char **operands, int count)
         misuse("standard input can be only one of the inputs");
 }
 
-/* Some calls want more stack than a small limit leaves, and would end by a signal. */
-static void need_stack(void)
-{
-    enum { NEEDED = SHIM_STACK_GENERATE + SHIM_STACK_OTHERS };
-    struct rlimit stack;
-    if (getrlimit(RLIMIT_STACK, &stack) != 0 || stack.rlim_cur >= NEEDED)
-        return;
-    stack.rlim_cur = NEEDED;
-    if (setrlimit(RLIMIT_STACK, &stack) != 0)
-        cannot("the stack", "made as large as some calls want", "; see ulimit -s");
-}
-
 int main(int count, char **words)
 {
-    need_stack();
     if (count < 2)
         misuse("a subcommand is missing");
     for (int i = 0; i < SUBCOMMANDS; i++)
@@ -421,7 +430,7 @@ int main(int count, char **words)
     take_options(count - 1, words + 1);
     char **operands = words + 1 + optind;
     count_operands(operands, count - 1 - optind);
-    current->make(operands, count - 1 - optind);
+    current->make(operands);
     flush_standard_output();
     return DONE;
 }

@@ -110,8 +110,8 @@ void judge_image(const struct input *image, uint64_t header[4]);
 void refuse_stream(const struct input *stream, const struct sides *sides, const struct shim_answer *answer);
 
 /*
- * These end the command. `word` is a number as it was typed, `last` the highest there is. What is left for refuse_rest is
- * a machine that is too large, or 7, against which every buffer of the command is large enough.
+ * These end the command. `word` is a number as it was typed, `last` the highest there is. What is left for refuse_rest
+ * is a machine that is too large, or 7, against which every buffer of the command is large enough.
  */
 ENDS void refuse_number(const char *name, const char *what, const char *word, uint64_t last,
                         const struct shim_answer *answer);

@@ -12,13 +12,17 @@
 
 void cannot(const char *name, const char *done, const char *hint)
 {
-    fprintf(stderr, "shim: %s: cannot be %s: %s%s\n", name, done, strerror(errno), hint);
+    fprintf(stderr, "shim: %s: cannot be %s: %s%s\n", name[0] == '\0' ? "''" : name, done, strerror(errno), hint);
     exit(TROUBLE);
 }
 
+/* Also by a name such as /dev/stdout: what stands in the file already must stay there, and the numbers come behind. */
 int is_standard_output(const char *path)
 {
-    return path == NULL || strcmp(path, "-") == 0;
+    struct stat there, own;
+    return path == NULL || strcmp(path, "-") == 0 ||
+           (stat(path, &there) == 0 && fstat(STDOUT_FILENO, &own) == 0 && there.st_dev == own.st_dev &&
+            there.st_ino == own.st_ino);
 }
 
 int is_terminal(const char *path)
@@ -55,22 +59,28 @@ static void write_special(const char *path, const void *at, size_t length)
         cannot(path, "written", "");
 }
 
-/* The file that is to be replaced: where the name is a symbolic link, the file that it leads to. */
+/*
+ * The file that is to be replaced: where the name is a symbolic link, the file that it leads to. A folder, or a file
+ * that is protected, must not give way to another.
+ */
 static char *meant_file(const char *path)
 {
     struct stat there;
     char *meant = lstat(path, &there) == 0 && S_ISLNK(there.st_mode) ? realpath(path, NULL) : strdup(path);
-    if (meant == NULL)
+    if (meant == NULL || (stat(meant, &there) == 0 && access(meant, W_OK) != 0))
+        cannot(path, "written", "");
+    errno = EISDIR;
+    if (stat(meant, &there) == 0 && S_ISDIR(there.st_mode))
         cannot(path, "written", "");
     return meant;
 }
 
-/* The permissions of the file that is replaced, or those that a new one gets. */
+/* The permissions of the file that is replaced, whose owner may become another, or those that a new one gets. */
 static mode_t mode_for(const char *path)
 {
     struct stat there;
     if (stat(path, &there) == 0)
-        return there.st_mode & 07777;
+        return there.st_mode & 0777;
     mode_t mask = umask(0);
     umask(mask);
     return 0666 & ~mask;
@@ -107,8 +117,8 @@ static char *name_beside(const char *path)
 }
 
 /*
- * A file beside the old one takes its place when it is whole. No signal that can be held back comes between, and a limit
- * of the file's size is told like any other fault.
+ * A file beside the old one takes its place when it is whole. No signal that can be held back comes between, and a
+ * limit of the file's size is told like any other fault.
  */
 static void replace(const char *path, const void *at, size_t length)
 {

@@ -142,7 +142,7 @@ static void tell_word(const uint8_t *word, size_t length)
         fprintf(stderr, "'%.*s'", (int)length, (const char *)word);
 }
 
-/* Prints what is left of the followers, one after the other, behind `told` others: words if few are left, or lower case. */
+/* Prints what is left of the followers behind `told` others, as words where few are left or the first is lower case. */
 static void tell_followers(reader *read, uint8_t *text, size_t length, struct followers next, int told)
 {
     int few = told == 0 && next.count <= 2;

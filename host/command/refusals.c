@@ -229,7 +229,7 @@ void refuse_stream(const struct input *stream, const struct sides *sides, const 
     end_at(stream, place, answer);
 }
 
-/* Lines that end in a carriage return and a line feed look right where they are shown, so the sentence speaks of them. */
+/* Such lines look right in an editor, so the sentence speaks of them. */
 static int has_carriage_return(const struct input *input)
 {
     for (size_t i = 1; i < input->length; i++)
