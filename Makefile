@@ -68,4 +68,6 @@ uninstall:
 clean:
 	rm -rf target/command
 
+always:
+
 .PHONY: all check install uninstall clean always
