@@ -183,9 +183,7 @@ static void make_generate(char **operands, int count)
     }
     uint64_t way = way_given();
     struct input upstream = model_input(operands[0], 0), target = model_input(operands[1], 1);
-    char name[1024];
-    snprintf(name, sizeof name, "%s on %s", upstream.name, target.name);
-    generate(name, way, &upstream, &target);
+    generate(pair_name(&upstream, &target), way, &upstream, &target);
 }
 
 /* How many there are of something, as `1 fence` and `2 fences`. */
@@ -387,9 +385,9 @@ static void count_operands(char **operands, int count)
         misuse("an operand is missing");
     if (count > current->most)
         misuse("%s: is an operand too many", operands[current->most]);
-    int standard = current->stream && count < current->most;
-    for (int i = 0; i < count; i++)
-        standard += is_standard_input(operands[i]);
+    int standard = current->stream && is_standard_stream(count < current->most ? NULL : operands[count - 1]);
+    for (int i = 0; i < count - (current->stream && count == current->most); i++)
+        standard += strcmp(operands[i], "-") == 0;
     if (standard > 1)
         misuse("standard input can be only one of the inputs");
 }

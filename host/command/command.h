@@ -44,8 +44,11 @@ struct input model_input(const char *word, int as_target);
 /* The word itself, the file behind an `@`, or standard input for `-` and where there is no word. */
 struct input stream_input(const char *word);
 
-/* Does the word mean standard input, as a file or as a stream? */
-int is_standard_input(const char *word);
+/* Does the word, or that there is none, mean standard input as a stream? */
+int is_standard_stream(const char *word);
+
+/* What a sentence about two models calls them. */
+const char *pair_name(const struct input *upstream, const struct input *target);
 
 /* The parts of an input of shimlist. */
 struct parts {

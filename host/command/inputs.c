@@ -112,16 +112,23 @@ struct input model_input(const char *word, int as_target)
     return hinted_input(word, SHIM_TEXT_LIMIT, hint);
 }
 
-int is_standard_input(const char *word)
+const char *pair_name(const struct input *upstream, const struct input *target)
 {
-    return strcmp(word, "-") == 0 || strcmp(word, "@-") == 0;
+    static const char on[] = " on ";
+    char *name = (char *)reserved(NULL, strlen(upstream->name) + strlen(on) + strlen(target->name) + 1);
+    return strcat(strcat(strcpy(name, upstream->name), on), target->name);
+}
+
+int is_standard_stream(const char *word)
+{
+    return word == NULL || strcmp(word, "-") == 0 || strcmp(word, "@-") == 0;
 }
 
 struct input stream_input(const char *word)
 {
-    if (word != NULL && word[0] != '@' && !is_standard_input(word))
+    if (!is_standard_stream(word) && word[0] != '@')
         return whole_input("the stream", (const uint8_t *)word, strlen(word));
-    struct input stream = file_input(word == NULL || is_standard_input(word) ? "-" : word + 1, SHIM_STREAM_LIMIT);
+    struct input stream = file_input(is_standard_stream(word) ? "-" : word + 1, SHIM_STREAM_LIMIT);
     if (stream.length > 0 && stream.at[stream.length - 1] == '\n')
         stream.length--;
     stream.file_length = stream.length;

@@ -142,13 +142,13 @@ static void tell_word(const uint8_t *word, size_t length)
         fprintf(stderr, "'%.*s'", (int)length, (const char *)word);
 }
 
-/* Prints what is left of the followers, one after the other, behind `told` others. */
+/* Prints what is left of the followers, one after the other, behind `told` others: words if few are left, or lower case. */
 static void tell_followers(reader *read, uint8_t *text, size_t length, struct followers next, int told)
 {
-    int words = told == 0 && next.count <= 2 && length < LONG_TEXT;
+    int few = told == 0 && next.count <= 2;
     while (next.count > 0) {
         uint8_t byte = lowest(&next);
-        size_t word = words ? word_of(read, text, length, byte) : byte != '\n';
+        size_t word = length < LONG_TEXT && (few || byte >= 'a') ? word_of(read, text, length, byte) : byte != '\n';
         text[length] = byte;
         fprintf(stderr, "%s", told == 0 ? "" : next.count > 0 ? ", " : " or ");
         tell_word(text + length, word);

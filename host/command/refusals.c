@@ -229,10 +229,19 @@ void refuse_stream(const struct input *stream, const struct sides *sides, const 
     end_at(stream, place, answer);
 }
 
+/* Lines that end in a carriage return and a line feed look right where they are shown, so the sentence speaks of them. */
+static int has_carriage_return(const struct input *input)
+{
+    for (size_t i = 1; i < input->length; i++)
+        if (input->at[i - 1] == '\r' && input->at[i] == '\n')
+            return 1;
+    return 0;
+}
+
 void refuse_shape(const struct input *input, const char *missing, size_t place, const struct shim_answer *answer)
 {
     begin_at(input, place);
-    fprintf(stderr, "%s", missing);
+    fprintf(stderr, "%s%s", missing, has_carriage_return(input) ? "; lines end in a line feed alone" : "");
     end_at(input, place, answer);
 }
 

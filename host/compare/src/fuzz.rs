@@ -53,25 +53,34 @@ impl<'a> Arguments<'a> {
     }
 }
 
-/// Puts arguments together as `Arguments` takes them apart.
+/// Puts arguments together as `Arguments` takes them apart, and keeps the regions by themselves.
 #[derive(Default)]
-struct Seed(Vec<u8>);
+struct Seed {
+    bytes: Vec<u8>,
+    regions: Vec<Vec<u8>>,
+}
 
 impl Seed {
     fn number(mut self, number: u64) -> Seed {
         match number {
-            0..=127 => self.0.push(number as u8),
+            0..=127 => self.bytes.push(number as u8),
             _ => {
-                self.0.push(255);
-                self.0.extend(number.to_be_bytes());
+                self.bytes.push(255);
+                self.bytes.extend(number.to_be_bytes());
             }
         }
         self
     }
 
     fn room(mut self, room: usize) -> Seed {
-        self.0.extend((room as u16).to_be_bytes());
+        self.bytes.extend((room as u16).to_be_bytes());
         self
+    }
+
+    /// A room of three bytes, as the calls have that write more.
+    fn large_room(mut self, room: usize) -> Seed {
+        self.bytes.push(0);
+        self.room(room)
     }
 
     fn region(self, bytes: &[u8]) -> Seed {
@@ -79,7 +88,8 @@ impl Seed {
     }
 
     fn rest(mut self, bytes: &[u8]) -> Seed {
-        self.0.extend(bytes);
+        self.bytes.extend(bytes);
+        self.regions.push(bytes.to_vec());
         self
     }
 }
@@ -229,15 +239,26 @@ fn image_of(upstream: u64, target: u64, way: u64) -> Vec<u8> {
 }
 
 fn write(folder: &str, call: &str, seeds: Vec<Seed>) -> Result<()> {
+    let files = Path::new(&format!("{folder}.files")).join(call);
     let folder = Path::new(folder).join(call);
     fs::create_dir_all(&folder)?;
+    fs::create_dir_all(&files)?;
     for (number, seed) in seeds.iter().enumerate() {
-        fs::write(folder.join(format!("{number:02}")), &seed.0)?;
+        fs::write(folder.join(format!("{number:02}")), &seed.bytes)?;
+        write_regions(&files, number, &seed.regions)?;
     }
     Ok(())
 }
 
-/// One folder of first inputs for each export.
+fn write_regions(files: &Path, number: usize, regions: &[Vec<u8>]) -> Result<()> {
+    for (place, region) in regions.iter().enumerate() {
+        fs::write(files.join(format!("{number:02}.{place}")), region)?;
+    }
+    Ok(())
+}
+
+/// One folder of first inputs for each export. Beside it, in `FOLDER.files`, each
+/// region of an input is a file of its own, for `host/command-seeds`.
 pub fn write_seeds(folder: &str) -> Result<()> {
     let new = Seed::default;
     let texts = || (0..16).map(builtin_text);
@@ -272,13 +293,13 @@ pub fn write_seeds(folder: &str) -> Result<()> {
             let begun = || new().number(renew).room(ROOM);
             reads.push(begun().rest(&image));
             image_runs.push(begun().number(0).region(stream).rest(&image));
-            let begun = new().number(renew).rest(&[0]).room(ROOM);
+            let begun = new().number(renew).large_room(ROOM);
             draws.push(begun.rest(&image));
         }
         let machine = image::read(&image).expect("an image");
         undraws.push(new().room(ROOM).rest(&drawing::write(&machine)));
         let input = list_input(&upstream, &target, Way::BOTH[way as usize], stream);
-        lists.push(new().rest(&[0]).room(ROOM).rest(&input));
+        lists.push(new().large_room(ROOM).rest(&input));
     }
     write(folder, "run", runs)?;
     write(folder, "generate", machines)?;

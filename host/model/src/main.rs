@@ -7,7 +7,7 @@ use shim_model::model::Model;
 use shim_model::rule::{Shim, Way};
 use shim_model::situation::Situation;
 use shim_model::stream::{bytes, fences, operations, Operation};
-use shim_model::{builtin, calls, drawing, image, limits, placing, text};
+use shim_model::{builtin, calls, drawing, form, image, limits, placing, text};
 use std::io::{Read, Write};
 
 const USAGE: &str = "\
@@ -24,6 +24,8 @@ usage: shim-model COMMAND
   image-run START STREAM < IMAGE   output, bytes written, fences, end state
   draw < IMAGE                     the image's drawing
   undraw < DRAWING                 the drawing's image, its bytes
+  follow model < TEXT              how much of it begins some text of the form, and
+  follow drawing < TEXT              the bytes that may follow there, in hexadecimal
   fewest UP TARGET STREAM MOST     least fences over all placings, at most MOST in a gap
   list < INPUT                     what shimlist prints
 WAY is sparing, full or a number. UP, TARGET, FIRST and SECOND are each the
@@ -85,6 +87,8 @@ fn answer(words: &[&str]) -> Printed {
         }
         ["draw"] => Ok(drawing::write(&image::read(&input()?)?)),
         ["undraw"] => Ok(image::write(&drawing::read(&input()?)?)),
+        ["follow", "model"] => Ok(follow(&input()?, form::fault)),
+        ["follow", "drawing"] => Ok(follow(&input()?, drawing_fault)),
         ["fewest", up, target, stream, most] => {
             fewest([up, target], stream, number_of(most)? as usize)
         }
@@ -275,6 +279,24 @@ fn image_run(image_bytes: &[u8], start: u64, stream: &[u8]) -> Printed {
     }
     let (output, state) = machine.run(start as usize, stream)?;
     Ok(format!("{}state {state}\n", output_lines(&output)).into_bytes())
+}
+
+/// A text over the limit has no place of its own, and is not asked about.
+fn drawing_fault(text_bytes: &[u8]) -> Option<usize> {
+    let refusal = drawing::read(text_bytes).err()?;
+    Some(refusal.place() as usize)
+}
+
+/// Every byte is tried behind the longest beginning that begins a text of the form.
+fn follow(text_bytes: &[u8], fault: fn(&[u8]) -> Option<usize>) -> Vec<u8> {
+    let place = fault(text_bytes).unwrap_or(text_bytes.len());
+    let goes_on = |byte: &u8| {
+        let tried = [&text_bytes[..place], &[*byte]].concat();
+        fault(&tried).is_none_or(|further| further > place)
+    };
+    let bytes = (0..=255).filter(goes_on);
+    let shown: String = bytes.map(|byte| format!(" {byte:02x}")).collect();
+    format!("{place}{shown}\n").into_bytes()
 }
 
 fn fewest(words: [&str; 2], stream: &str, most: usize) -> Printed {
