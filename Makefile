@@ -7,6 +7,7 @@
 # For another processor: make PROCESSOR=aarch64 CC=aarch64-linux-gnu-gcc LDFLAGS=-static (and for check EMULATOR=qemu-aarch64).
 # The archive is made where there is none of the crates as they are: that proves the library, which takes some minutes and
 # the Rattle toolchain. ARCHIVE names another one, which is taken as it is.
+
 # Without this make looks for a rule for each file of the crates, which takes a second.
 MAKEFLAGS += -r
 MACHINE != uname -m
