@@ -204,7 +204,7 @@ static void tell_count(uint64_t count, const char *what)
 /* A side's name, which an image fills up with zeros, and its fences. */
 static void tell_side(const char *side, const uint8_t *name, uint64_t fences)
 {
-    printf("%s%.16s, ", side, (const char *)name);
+    printf("%s%.*s, ", side, NAME, (const char *)name);
     tell_count(fences, "fence");
 }
 
@@ -212,15 +212,16 @@ static void make_image(char **operands)
 {
     struct input image = file_input(operands[0], SHIM_IMAGE_LIMIT);
     judge_image(&image, header);
-    printf("form      %d\nway       %s\n", image.at[2], header[0] == SHIM_FULL ? "full" : "sparing");
+    printf("form      %d\nway       %s\n", image.at[FORM_AT], header[0] == SHIM_FULL ? "full" : "sparing");
     printf("states    %d\n", (int)header[1]);
-    tell_side("upstream  ", image.at + 7, header[2]);
-    tell_side("\ntarget    ", image.at + 23, header[3]);
+    tell_side("upstream  ", image.at + UPSTREAM_AT, header[2]);
+    tell_side("\ntarget    ", image.at + TARGET_AT, header[3]);
     printf("\nsize      %zu bytes, ", image.length);
-    tell_count(image.length / 512, "block");
-    printf("\nchecks    ");
-    for (size_t check = 510; check < image.length; check += 512)
-        printf("%02X%02X%s", image.at[check], image.at[check + 1], check + 512 < image.length ? " " : ", all right\n");
+    tell_count(image.length / BLOCK, "block");
+    printf("\nchecks   ");
+    for (size_t check = CHECK_AT; check < image.length; check += BLOCK)
+        printf(" %02X%02X", image.at[check], image.at[check + 1]);
+    printf(", all right\n");
 }
 
 static void make_image_run(char **operands)

@@ -25,6 +25,23 @@ struct input {
     size_t file_length;
 };
 
+/* The layout of an image, document 01's, where the command speaks of an image's bytes. */
+enum {
+    BLOCK = 512,
+    CONTENTS_AT = 2,
+    CONTENTS_END = 506,
+    CHECK_AT = 510,
+    FORM_AT = 2,
+    WAY_AT = 3,
+    STATES_AT = 4,
+    FENCES_AT = 5,
+    UPSTREAM_AT = 7,
+    TARGET_AT = 23,
+    NAME = 16,
+    STATES_OF_A_BLOCK = 21,
+    STATE = 24
+};
+
 /* ---- shim.c */
 
 /* Ends the command with a sentence and the usage of its subcommand. */
@@ -82,8 +99,8 @@ void tell_place(const struct input *text, size_t place);
 /* Prints the line of the text with a caret under the place. */
 void show_place(const struct input *text, size_t place);
 
-/* Prints a byte as it is shown in a line and in quotes; the answer is how many characters that takes. */
-int show_byte(uint8_t byte);
+/* Prints a byte as it is shown in a line and in quotes. */
+void show_byte(uint8_t byte);
 
 /* A call that reads a text, into a buffer of its own. */
 typedef void reader(const uint8_t *text, size_t length, struct shim_answer *answer);

@@ -162,9 +162,17 @@ static size_t text_end(const struct input *whole, size_t from, int *ended)
     return from;
 }
 
+/* Is this a way's line without its line feed? Then the place is where that must stand. */
+static int is_cut(const struct input *whole, size_t *place)
+{
+    int cut = line_is(whole, *place, "way full") || line_is(whole, *place, "way sparing");
+    *place = cut ? whole->length : *place;
+    return cut;
+}
+
 const char *take_apart(const struct input *whole, struct parts *parts, size_t *place)
 {
-    static const char run[] = "run ";
+    static const char run[] = "run ", unended[] = "the line must end in a line feed";
     int ended;
     size_t target = text_end(whole, 0, &ended), way = text_end(whole, target, &ended);
     *place = way;
@@ -172,14 +180,14 @@ const char *take_apart(const struct input *whole, struct parts *parts, size_t *p
         return "a model's text ends with a line 'end', and there must be two texts";
     int full = line_is(whole, way, "way full\n");
     if (!full && !line_is(whole, way, "way sparing\n"))
-        return "a line 'way full' or 'way sparing' must stand here";
+        return is_cut(whole, place) ? unended : "a line 'way full' or 'way sparing' must stand here";
     size_t stream = line_end(whole, way) + strlen(run), end = line_end(whole, line_end(whole, way));
     *place = line_end(whole, way);
     if (end < stream || memcmp(whole->at + *place, run, strlen(run)) != 0)
         return "a line of 'run ' and a stream must stand here";
     *place = end;
     if (whole->at[end - 1] != '\n')
-        return "the line of the stream must end in a line feed";
+        return unended;
     if (end < whole->length)
         return "nothing may follow here";
     parts->upstream = part_of(whole, 0, target);

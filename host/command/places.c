@@ -36,30 +36,56 @@ void tell_place(const struct input *text, size_t place)
     fprintf(stderr, "line %zu, column %zu: ", line.number, in_file(text, place) - line.start + 1);
 }
 
-int show_byte(uint8_t byte)
+/* How many characters a byte takes where it is shown. */
+static size_t width(uint8_t byte)
 {
-    if (byte >= ' ' && byte <= '~')
-        return fprintf(stderr, "%c", byte);
-    if (byte == '\t' || byte == '\n' || byte == '\r')
-        return fprintf(stderr, "\\%c", byte == '\t' ? 't' : byte == '\n' ? 'n' : 'r');
-    return fprintf(stderr, "\\x%02X", byte);
+    return byte >= ' ' && byte <= '~' ? 1 : byte == '\t' || byte == '\n' || byte == '\r' ? 2 : 4;
+}
+
+void show_byte(uint8_t byte)
+{
+    if (width(byte) == 1)
+        fprintf(stderr, "%c", byte);
+    else if (width(byte) == 2)
+        fprintf(stderr, "\\%c", byte == '\t' ? 't' : byte == '\n' ? 'n' : 'r');
+    else
+        fprintf(stderr, "\\x%02X", byte);
+}
+
+/* How many bytes before the place take no more than this room, and how many characters these take. */
+static size_t bytes_before(const struct input *text, struct line line, size_t here, size_t *room)
+{
+    size_t from = here, left = *room;
+    while (from > line.start && width(text->file[from - 1]) <= left)
+        left -= width(text->file[--from]);
+    *room -= left;
+    return here - from;
+}
+
+/* Shows bytes until the line's end or until they take more than this room. */
+static size_t show_bytes(const struct input *text, struct line line, size_t from, size_t room)
+{
+    while (from < line.end && width(text->file[from]) <= room) {
+        room -= width(text->file[from]);
+        show_byte(text->file[from++]);
+    }
+    return from;
 }
 
 void show_place(const struct input *text, size_t place)
 {
     struct line line = line_of(text, place);
-    size_t here = in_file(text, place), from = line.start, to = line.end;
-    if (to - from > SHOWN) {
-        from = here - from > BEFORE ? here - BEFORE : from;
-        to = to - from > SHOWN ? from + SHOWN : to;
+    size_t here = in_file(text, place), before = BEFORE, all = SHOWN;
+    size_t from = here - bytes_before(text, line, here, &before);
+    /* A line that has room is shown whole. */
+    if (line.end - line.start <= SHOWN && bytes_before(text, line, line.end, &all) == line.end - line.start) {
+        from = line.start;
+        before = SHOWN;
+        bytes_before(text, line, here, &before);
     }
     fprintf(stderr, "    %s", from > line.start ? "..." : "");
-    int before = from > line.start ? 3 : 0;
-    for (size_t i = from; i < to; i++) {
-        int width = show_byte(text->file[i]);
-        before += i < here ? width : 0;
-    }
-    fprintf(stderr, "%s\n    %*s^\n", to < line.end ? "..." : "", before, "");
+    size_t to = show_bytes(text, line, from, SHOWN);
+    fprintf(stderr, "%s\n    %*s^\n", to < line.end ? "..." : "", (int)before + (from > line.start ? 3 : 0), "");
 }
 
 /* Can these bytes begin a text that the call accepts, fence names' equality aside? */

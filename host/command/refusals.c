@@ -11,40 +11,40 @@ static void begin(const char *name)
     fprintf(stderr, "shim: %s%s", name == NULL ? "" : name, name == NULL ? "" : ": ");
 }
 
-static void end(const struct shim_answer *answer)
-{
-    fprintf(stderr, " (refused %d at %d)\n", (int)answer->number, (int)answer->place);
-}
-
-/* The end of a sentence about a place in a text. */
-ENDS static void end_at(const struct input *text, size_t place, const struct shim_answer *answer)
-{
-    end(answer);
-    show_place(text, place);
-    exit(REFUSED);
-}
-
 static void begin_at(const struct input *text, size_t place)
 {
     begin(text->name);
     tell_place(text, place);
 }
 
-ENDS static void refuse(const char *name, const char *sentence, const struct shim_answer *answer)
+static void tell_refusal(const struct shim_answer *answer)
 {
-    begin(name);
-    fprintf(stderr, "%s", sentence);
-    end(answer);
+    fprintf(stderr, " (refused %d at %d)\n", (int)answer->number, (int)answer->place);
+}
+
+ENDS static void end(const struct shim_answer *answer)
+{
+    tell_refusal(answer);
     exit(REFUSED);
 }
 
-ENDS static void refuse_length(const char *name, const char *what, int most, const char *unit,
+/* The end of a sentence about a place in a text. */
+ENDS static void end_at(const struct input *text, size_t place, const struct shim_answer *answer)
+{
+    tell_refusal(answer);
+    show_place(text, place);
+    exit(REFUSED);
+}
+
+/* Of a part of a file it is told where the part begins. */
+ENDS static void refuse_length(const struct input *input, const char *what, int most, const char *unit,
                                const struct shim_answer *answer)
 {
-    begin(name);
+    begin(input->name);
+    if (input->length < input->file_length)
+        tell_place(input, 0);
     fprintf(stderr, "too long: %s has at most %d %s", what, most, unit);
     end(answer);
-    exit(REFUSED);
 }
 
 static void read_model(const uint8_t *text, size_t length, struct shim_answer *answer)
@@ -81,7 +81,7 @@ void judge_model(const struct input *text)
     struct shim_answer answer;
     read_model(text->at, text->length, &answer);
     if (answer.number == SHIM_REFUSED_OVER_LIMIT)
-        refuse_length(text->name, "a model's text", SHIM_TEXT_LIMIT, "bytes", &answer);
+        refuse_length(text, "a model's text", SHIM_TEXT_LIMIT, "bytes", &answer);
     if (answer.number == SHIM_REFUSED_TEXT)
         refuse_form(read_model, text, &answer);
     if (answer.number == SHIM_REFUSED_NAME_REPEATS)
@@ -93,14 +93,12 @@ void judge_drawing(const struct input *drawing)
     struct shim_answer answer;
     read_drawing(drawing->at, drawing->length, &answer);
     if (answer.number == SHIM_REFUSED_OVER_LIMIT)
-        refuse_length(drawing->name, "a drawing", SHIM_DRAWING_LIMIT, "bytes", &answer);
+        refuse_length(drawing, "a drawing", SHIM_DRAWING_LIMIT, "bytes", &answer);
     if (answer.number == SHIM_REFUSED_TEXT)
         refuse_form(read_drawing, drawing, &answer);
 }
 
-/* ---- images, by the layout of document 01 */
-
-enum { BLOCK = 512, STATES_AT = 4, STATES_OF_A_BLOCK = 21, STATE = 24 };
+/* ---- images */
 
 ENDS static void refuse_block(const struct input *image, const struct shim_answer *answer)
 {
@@ -115,22 +113,24 @@ ENDS static void refuse_block(const struct input *image, const struct shim_answe
     else
         fprintf(stderr, "block %zu is damaged: its check does not fit its bytes", block);
     end(answer);
-    exit(REFUSED);
 }
 
-/* What block 0 has at a byte. */
-static const char *header_field(size_t byte)
+/* Tells what block 0 has at a byte. */
+static void tell_header_field(size_t byte)
 {
-    static const char *const fields[] = {
-        "the form, which is 1",
-        "the way, 0 or 1",
-        "the number of states, at least 1, which must fit the number of blocks",
-        "the number of upstream fences, at most 16",
-        "the number of target fences, at most 16",
-    };
-    if (byte < 7)
-        return fields[byte - 2];
-    return byte < 23 ? "the upstream model's name" : byte < 39 ? "the target model's name" : "zeros behind the header";
+    if (byte == FORM_AT)
+        fprintf(stderr, "the form, which is 1");
+    else if (byte == WAY_AT)
+        fprintf(stderr, "the way, %d or %d", SHIM_SPARING, SHIM_FULL);
+    else if (byte == STATES_AT)
+        fprintf(stderr, "the number of states, at least 1, which must fit the number of blocks");
+    else if (byte < UPSTREAM_AT)
+        fprintf(stderr, "the number of %s fences, at most %d", byte == FENCES_AT ? "upstream" : "target",
+                SHIM_MODEL_FENCES);
+    else if (byte < TARGET_AT + NAME)
+        fprintf(stderr, "the %s model's name", byte < TARGET_AT ? "upstream" : "target");
+    else
+        fprintf(stderr, "zeros behind the header");
 }
 
 /* What a state has at its own byte: fence and next state for each access, then next states for upstream fences. */
@@ -145,19 +145,18 @@ static void tell_state_field(size_t state, size_t byte)
 ENDS static void refuse_value(const struct input *image, const struct shim_answer *answer)
 {
     size_t place = (size_t)answer->place, block = place / BLOCK, byte = place % BLOCK;
-    size_t state = (block - 1) * STATES_OF_A_BLOCK + (byte - 2) / STATE;
+    size_t state = (block - 1) * STATES_OF_A_BLOCK + (byte - CONTENTS_AT) / STATE;
     begin(image->name);
     fprintf(stderr, "byte %zu is %02X, which may not stand there: ", place, image->at[place]);
-    if (byte >= 506)
+    if (byte >= CONTENTS_END)
         fprintf(stderr, "zeros before a block's check");
     else if (block == 0)
-        fprintf(stderr, "%s", header_field(byte));
+        tell_header_field(byte);
     else if (state >= image->at[STATES_AT])
         fprintf(stderr, "zeros behind the last state");
     else
-        tell_state_field(state, (byte - 2) % STATE);
+        tell_state_field(state, (byte - CONTENTS_AT) % STATE);
     end(answer);
-    exit(REFUSED);
 }
 
 void judge_image(const struct input *image, uint64_t header[4])
@@ -166,7 +165,7 @@ void judge_image(const struct input *image, uint64_t header[4])
     struct shim_answer answer;
     shim_image_read(image->at, image->length, out, sizeof out, header, &answer);
     if (answer.number == SHIM_REFUSED_OVER_LIMIT)
-        refuse_length(image->name, "an image", SHIM_IMAGE_LIMIT, "bytes", &answer);
+        refuse_length(image, "an image", SHIM_IMAGE_LIMIT, "bytes", &answer);
     if (answer.number == SHIM_REFUSED_BLOCK)
         refuse_block(image, &answer);
     if (answer.number == SHIM_REFUSED_IMAGE_VALUE)
@@ -215,7 +214,7 @@ void refuse_stream(const struct input *stream, const struct sides *sides, const 
 {
     size_t place = (size_t)answer->place;
     if (answer->number == SHIM_REFUSED_OVER_LIMIT)
-        refuse_length(stream->name, "a stream", SHIM_STREAM_LIMIT, "operations", answer);
+        refuse_length(stream, "a stream", SHIM_STREAM_LIMIT, "operations", answer);
     if (answer->number != SHIM_REFUSED_NO_OPERATION && answer->number != SHIM_REFUSED_NO_SUCH_FENCE &&
         answer->number != SHIM_REFUSED_NO_FENCE_WILL_DO)
         return;
@@ -247,7 +246,7 @@ void refuse_shape(const struct input *input, const char *missing, size_t place, 
 
 void refuse_input_length(const struct input *input, const struct shim_answer *answer)
 {
-    refuse_length(input->name, "an input", SHIM_LIST_INPUT_LIMIT, "bytes", answer);
+    refuse_length(input, "an input", SHIM_LIST_INPUT_LIMIT, "bytes", answer);
 }
 
 void refuse_number(const char *name, const char *what, const char *word, uint64_t last,
@@ -256,14 +255,16 @@ void refuse_number(const char *name, const char *what, const char *word, uint64_
     begin(name);
     fprintf(stderr, "there is no %s %s; the last is %d", what, word, (int)last);
     end(answer);
-    exit(REFUSED);
 }
 
 void refuse_rest(const char *name, const struct shim_answer *answer)
 {
+    begin(name);
     if (answer->number == SHIM_REFUSED_SITUATIONS)
-        refuse(name, "the shim reaches more than 4096 situations", answer);
-    if (answer->number == SHIM_REFUSED_STATES)
-        refuse(name, "the machine has more than 255 states", answer);
-    refuse(name, "there is no room for what must be written", answer);
+        fprintf(stderr, "the shim reaches more than %d situations", SHIM_SITUATION_LIMIT);
+    else if (answer->number == SHIM_REFUSED_STATES)
+        fprintf(stderr, "the machine has more than %d states", SHIM_STATE_LIMIT);
+    else
+        fprintf(stderr, "there is no room for what must be written");
+    end(answer);
 }
