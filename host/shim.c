@@ -15,10 +15,6 @@
 #include <string.h>
 #include <sys/resource.h>
 
-#ifndef SHIM_VERSION
-#error "shim.h does not say its version"
-#endif
-
 /* The options: what getopt tells for each, a number where it has no letter, and what was given behind it. */
 enum { WAY = 1, START, VERSION, OUTPUT = 'o', QUIET = 'q', HELP = 'h', HIGHEST = 'z' };
 static const char *given[HIGHEST];
@@ -182,7 +178,7 @@ static void make_generate(char **operands)
 {
     int one = operands[1] == NULL;
     if (one && given[WAY] != NULL)
-        misuse("an input has its own way");
+        misuse("with --way two models are wanted; an input has its own way");
     no_image_to_terminal();
     if (one) {
         struct input input = file_input(operands[0], SHIM_LIST_INPUT_LIMIT);
@@ -338,8 +334,18 @@ ENDS static void tell_help(void)
     for (int i = 0; i < SUBCOMMANDS; i++)
         if (current == NULL || current == &subcommands[i])
             printf("  %-9s  %s\n", subcommands[i].name, subcommands[i].does);
-    printf("\nA model is a file, a built-in model's number (0 to 15) or builtin:NAME, as builtin:TSO. A stream is the\n"
-           "stream itself or @FILE. - is standard input. The manual page shim(1) says more.\n");
+    printf("\n"
+           "A model is a file, a built-in model's number (0 to 15) or builtin:NAME, as builtin:TSO. A stream is the\n"
+           "stream itself or @FILE. - is standard input, which is also the stream where none is given.\n"
+           "\n"
+           "  --way full|sparing   take the target's last fence alone, or the first that will do\n"
+           "  --start STATE        begin in this state; 0 is the fresh shim\n"
+           "  -o, --output FILE    write to this file, whole or not at all\n"
+           "  -q, --quiet          leave out the numbers that follow an output stream\n"
+           "  -h, --help           print this\n"
+           "  --version            print the version\n"
+           "\n"
+           "Status 1: an input was refused. Status 2: misuse, or a file cannot be read or written. See shim(1).\n");
     flush_standard_output();
     exit(DONE);
 }
@@ -408,11 +414,12 @@ static void count_operands(char **operands, int count)
         misuse("an operand is missing");
     if (count > current->most)
         misuse("%s: is an operand too many", operands[current->most]);
-    int standard = current->stream && is_standard_stream(count < current->most ? NULL : operands[count - 1]);
-    for (int i = 0; i < count - (current->stream && count == current->most); i++)
+    int missing = current->stream && count < current->most;
+    int standard = missing || (current->stream && is_standard_stream(operands[count - 1]));
+    for (int i = 0; i < current->most - current->stream && i < count; i++)
         standard += strcmp(operands[i], "-") == 0;
     if (standard > 1)
-        misuse("standard input can be only one of the inputs");
+        misuse("standard input can be only one of the inputs%s", missing ? ", and is the stream where none is given" : "");
 }
 
 int main(int count, char **words)

@@ -30,7 +30,7 @@ static struct input read_bytes(const char *name, FILE *file, size_t limit)
     return whole_input(name, reserved(at, length), length);
 }
 
-/* Where there is no such file, the hint says what may have been meant. */
+/* Where the file cannot be opened, the hint says what may have been meant. */
 static struct input hinted_input(const char *word, size_t limit, const char *hint)
 {
     if (strcmp(word, "-") == 0)
@@ -72,14 +72,14 @@ static struct input built_in(const char *name, const char *word, uint64_t number
     return whole_input(name, at, (size_t)answer.written);
 }
 
-/* Is this the built-in model's name? Its text begins with `model `, the name and a line feed. */
+/* Is this the built-in model's name? It stands in its text's first line, behind `model `. */
 static int is_named(uint64_t number, const char *name)
 {
     uint8_t text[SHIM_TEXT_OUT];
     struct shim_answer answer;
-    size_t length = strlen(name), start = strlen("model ");
     shim_builtin(number, text, sizeof text, &answer);
-    return start + length < answer.written && memcmp(text + start, name, length) == 0 && text[start + length] == '\n';
+    const uint8_t *own = text + strlen("model "), *end = memchr(text, '\n', (size_t)answer.written);
+    return strlen(name) == (size_t)(end - own) && memcmp(own, name, strlen(name)) == 0;
 }
 
 /* The number of the built-in model that has this name, SHIM_BUILTINS if none has. */

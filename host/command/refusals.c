@@ -69,10 +69,9 @@ ENDS static void refuse_form(reader *read, const struct input *text, const struc
 ENDS static void refuse_name(const struct input *text, const struct shim_answer *answer)
 {
     size_t place = (size_t)answer->place;
-    const uint8_t *space = memchr(text->at + place, ' ', text->length - place);
+    const uint8_t *name = text->at + place, *space = memchr(name, ' ', text->length - place);
     begin_at(text, place);
-    fprintf(stderr, "the fence name '%.*s' stands above already", (int)(space - text->at - (ptrdiff_t)place),
-            (const char *)text->at + place);
+    fprintf(stderr, "the fence name '%.*s' stands above already", (int)(space - name), (const char *)name);
     end_at(text, place, answer);
 }
 
@@ -128,18 +127,24 @@ static void tell_header_field(size_t byte)
         fprintf(stderr, "the number of %s fences, at most %d", byte == FENCES_AT ? "upstream" : "target",
                 SHIM_MODEL_FENCES);
     else if (byte < TARGET_AT + NAME)
-        fprintf(stderr, "the %s model's name", byte < TARGET_AT ? "upstream" : "target");
+        fprintf(stderr, "the %s model's name, which is letters, digits and underscores and then zeros",
+                byte < TARGET_AT ? "upstream" : "target");
     else
         fprintf(stderr, "zeros behind the header");
 }
 
-/* What a state has at its own byte: fence and next state for each access, then next states for upstream fences. */
-static void tell_state_field(size_t state, size_t byte)
+/* Tells what a state has at its own byte: fence and next state for each access, then next states for upstream fences. */
+static void tell_state_field(size_t state, size_t byte, size_t upstream_fences)
 {
-    if (byte < 8)
-        fprintf(stderr, "state %zu's %s for %c", state, byte % 2 == 0 ? "fence" : "next state", "lLsS"[byte / 2]);
+    fprintf(stderr, "state %zu's ", state);
+    if (byte >= 8 + upstream_fences)
+        fprintf(stderr, "zeros for fences that the upstream model does not have");
+    else if (byte >= 8)
+        fprintf(stderr, "next state for upstream fence %zu, which must be one of the states", byte - 8);
+    else if (byte % 2 == 0)
+        fprintf(stderr, "fence for %c: a number of a target fence, FF for none or FE if refused", "lLsS"[byte / 2]);
     else
-        fprintf(stderr, "state %zu's next state for upstream fence %zu", state, byte - 8);
+        fprintf(stderr, "next state for %c, which must be one of the states, and 0 if refused", "lLsS"[byte / 2]);
 }
 
 ENDS static void refuse_value(const struct input *image, const struct shim_answer *answer)
@@ -155,7 +160,7 @@ ENDS static void refuse_value(const struct input *image, const struct shim_answe
     else if (state >= image->at[STATES_AT])
         fprintf(stderr, "zeros behind the last state");
     else
-        tell_state_field(state, (byte - CONTENTS_AT) % STATE);
+        tell_state_field(state, (byte - CONTENTS_AT) % STATE, image->at[FENCES_AT]);
     end(answer);
 }
 
