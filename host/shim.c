@@ -419,7 +419,8 @@ static void count_operands(char **operands, int count)
     for (int i = 0; i < current->most - current->stream && i < count; i++)
         standard += strcmp(operands[i], "-") == 0;
     if (standard > 1)
-        misuse("standard input can be only one of the inputs%s", missing ? ", and is the stream where none is given" : "");
+        misuse("standard input can be only one of the inputs%s",
+               missing ? ", and is the stream where none is given" : "");
 }
 
 int main(int count, char **words)

@@ -133,7 +133,7 @@ static void tell_header_field(size_t byte)
         fprintf(stderr, "zeros behind the header");
 }
 
-/* Tells what a state has at its own byte: fence and next state for each access, then next states for upstream fences. */
+/* Tells what a state has at its own byte: fence and next state for each access, then those for upstream fences. */
 static void tell_state_field(size_t state, size_t byte, size_t upstream_fences)
 {
     fprintf(stderr, "state %zu's ", state);
