@@ -27,20 +27,22 @@ MANDIR ?= $(PREFIX)/share/man
 OUT = target/command/$(PROCESSOR)
 SOURCES = host/shim.c host/command/*.c
 HEADERS = include/shim.h host/command/*.h
-CRATES != find crates crates.txt
+CRATES != find crates crates.txt -name '.*' -prune -o -print
 VERSION != sed -n 's/^.define SHIM_VERSION "\(.*\)"$$/\1/p' include/shim.h
 MODEL = host/model/target/release/shim-model
 
 all: $(OUT)/shim $(OUT)/shim.1
 
+# Linked under another name, so that no one runs half a command.
 $(OUT)/shim: $(SOURCES) $(HEADERS) $(ARCHIVE) $(OUT)/archive
-	$(CC) -std=c99 -Wall -Wextra -pedantic -Iinclude $(CPPFLAGS) $(CFLAGS) $(LDFLAGS) $(SOURCES) $(ARCHIVE) $(LDLIBS) -o $@
+	$(CC) -std=c99 -Wall -Wextra -pedantic -Iinclude $(CPPFLAGS) $(CFLAGS) $(LDFLAGS) $(SOURCES) $(ARCHIVE) $(LDLIBS) -o $@.new
+	mv $@.new $@
 
 $(OUT)/shim.1: docs/shim.1 include/shim.h
 	mkdir -p $(OUT)
 	sed 's/@VERSION@/$(VERSION)/' docs/shim.1 >$@
 
-$(OWN_ARCHIVE): $(CRATES)
+$(OWN_ARCHIVE): $(CRATES) tools/archive
 	tools/archive $(PROCESSOR)
 
 # Which archive is in the command, so that it is made anew for another one, however old that is.
@@ -52,23 +54,25 @@ check: $(OUT)/shim
 	cd host/model && cargo build --release --offline --quiet
 	host/command-tests $(MODEL) -- $(EMULATOR) $(OUT)/shim
 
+# Straight to its place, so that who installs leaves nothing of his own here.
 install: all
-	$(INSTALL) -d $(DESTDIR)$(BINDIR) $(DESTDIR)$(LIBDIR)/pkgconfig $(DESTDIR)$(INCLUDEDIR) $(DESTDIR)$(MANDIR)/man1
-	$(INSTALL) -m 755 $(OUT)/shim $(DESTDIR)$(BINDIR)/shim
-	$(INSTALL) -m 644 $(ARCHIVE) $(DESTDIR)$(LIBDIR)/libshim.a
-	$(INSTALL) -m 644 include/shim.h $(DESTDIR)$(INCLUDEDIR)/shim.h
-	$(INSTALL) -m 644 $(OUT)/shim.1 $(DESTDIR)$(MANDIR)/man1/shim.1
+	$(INSTALL) -d "$(DESTDIR)$(BINDIR)" "$(DESTDIR)$(LIBDIR)/pkgconfig" "$(DESTDIR)$(INCLUDEDIR)" "$(DESTDIR)$(MANDIR)/man1"
+	$(INSTALL) -m 755 $(OUT)/shim "$(DESTDIR)$(BINDIR)/shim"
+	$(INSTALL) -m 644 $(ARCHIVE) "$(DESTDIR)$(LIBDIR)/libshim.a"
+	$(INSTALL) -m 644 include/shim.h "$(DESTDIR)$(INCLUDEDIR)/shim.h"
+	$(INSTALL) -m 644 $(OUT)/shim.1 "$(DESTDIR)$(MANDIR)/man1/shim.1"
 	sed -e 's|@PREFIX@|$(PREFIX)|' -e 's|@LIBDIR@|$(LIBDIR)|' -e 's|@INCLUDEDIR@|$(INCLUDEDIR)|' \
-		-e 's/@VERSION@/$(VERSION)/' host/shim.pc.in >$(OUT)/shim.pc
-	$(INSTALL) -m 644 $(OUT)/shim.pc $(DESTDIR)$(LIBDIR)/pkgconfig/shim.pc
+		-e 's/@VERSION@/$(VERSION)/' host/shim.pc.in >"$(DESTDIR)$(LIBDIR)/pkgconfig/shim.pc"
+	chmod 644 "$(DESTDIR)$(LIBDIR)/pkgconfig/shim.pc"
 
 uninstall:
-	rm -f $(DESTDIR)$(BINDIR)/shim $(DESTDIR)$(LIBDIR)/libshim.a $(DESTDIR)$(INCLUDEDIR)/shim.h \
-		$(DESTDIR)$(MANDIR)/man1/shim.1 $(DESTDIR)$(LIBDIR)/pkgconfig/shim.pc
+	rm -f "$(DESTDIR)$(BINDIR)/shim" "$(DESTDIR)$(LIBDIR)/libshim.a" "$(DESTDIR)$(INCLUDEDIR)/shim.h" \
+		"$(DESTDIR)$(MANDIR)/man1/shim.1" "$(DESTDIR)$(LIBDIR)/pkgconfig/shim.pc"
 
 clean:
 	rm -rf target/command
 
 always:
 
+.DELETE_ON_ERROR:
 .PHONY: all check install uninstall clean always
