@@ -46,9 +46,13 @@ $(OWN_ARCHIVE): $(CRATES) tools/archive
 	tools/archive $(PROCESSOR)
 
 # Which archive is in the command, so that it is made anew for another one, however old that is.
+NAMED != cat $(OUT)/archive 2>/dev/null || true
+ifneq ($(NAMED),$(ARCHIVE))
 $(OUT)/archive: always
+endif
+$(OUT)/archive:
 	@mkdir -p $(OUT)
-	@echo '$(ARCHIVE)' | cmp -s - $@ || echo '$(ARCHIVE)' >$@
+	@echo '$(ARCHIVE)' >$@
 
 check: $(OUT)/shim
 	cd host/model && cargo build --release --offline --quiet
