@@ -26,7 +26,7 @@ use Rattle.printing.specs.Decimal.{decimal}
 use Rattle.printing.specs.Turns.{inTurn}
 use Rattle.drawing.specs.Drawing.{nodeLine}
 use Rattle.drawing_reader.specs.inner.Nodes.{NodesEnd, NodesFrom, NodesPart}
-use Rattle.drawing_reader.proofs.Words.{word-found, word-stuck}
+use Rattle.drawing_label.proofs.Words.{word-found, word-stuck}
 
 pub node-word : (n : ℕ) → T (isWord (nodeLine n))
 node-word n = word-append (decimal n) (bytes ";\n") (decimal-word n) tt

@@ -5,21 +5,20 @@ ghost use lib.ListN.{length};
 ghost use Rattle.answers.specs.Given.{Answers};
 ghost use Rattle.operations.specs.Alphabet.{stride};
 ghost use Rattle.drawing_reader.specs.Undrawing.{Undrawn};
-ghost use Rattle.drawing_reader.specs.inner.Label.{LabelFormed, labelOf, labelFor, Fielded, Fits};
+ghost use Rattle.drawing_label.specs.Label.{LabelFormed, labelOf, labelFor, Fielded, Fits};
 ghost use Rattle.drawing_reader.specs.inner.Edges.{Shaped};
 ghost use Rattle.drawing_reader.specs.inner.Whole.{shapeFor, FromEdges, FromNodes, WholePart, ReadsDrawn};
 
 mod decimal;
 mod edges;
-mod label;
 mod nodes;
 
 use answers::Answer;
 use answers::Refusal;
+use drawing_label::LabelRead;
 use edges::Shape;
 use image::machine::Header;
 use image::writer;
-use label::LabelRead;
 use operations::alphabet::ACCESSES;
 use operations::alphabet::STRIDE;
 use operations::alphabet::WORDS;
@@ -94,7 +93,7 @@ fn read(text: &[u8], rows: &mut [u16]) -> DrawingRead
     ensures { λ r. ⌜ ReadsDrawn WholePart (now (text .entry)) 0 (now (rows .entry)) (r .header) (r .step) (now (rows .exit))
         × Fielded (r .header .upstream) × Fielded (r .header .target) ⌝ }
 {
-    let label = label::label(text);
+    let label = drawing_label::label(text);
     let step = label.step;
     match step {
         Step::Stuck(place) => DrawingRead {

@@ -12,7 +12,7 @@ use Rattle.texts.specs.Telling.{Then, Through, After, Word, Taken, took, stoppe
 use Rattle.image.specs.declared.machine.Header.{Header}
 use Rattle.image.specs.Image.{listed}
 use Rattle.drawing_reader.specs.declared.edges.Shape.{Shape}
-use Rattle.drawing_reader.specs.inner.Label.{Label, LabelPart, field, labelFor}
+use Rattle.drawing_label.specs.Label.{Label, LabelPart, field, labelFor}
 use Rattle.drawing_reader.specs.inner.Nodes.{NodesPart}
 use Rattle.drawing_reader.specs.inner.Edges.{RowsPart, rowsTold, Within}
 
