@@ -8,7 +8,7 @@ ghost use Rattle.texts.specs.Pattern.{isWord, followAt};
 ghost use Rattle.texts.specs.Telling.{Through, Word, Finds, partTaken};
 ghost use Rattle.drawing_reader.specs.inner.Edges.{fenceNumber, middle, MarkPart, RefusedLabel, Refused, Marked};
 ghost use Rattle.drawing_reader.specs.inner.Edges.{LedLabel, Led, EdgeEnd, EdgePart, Shaped, ReadsRow, ReadsRows};
-use crate::decimal;
+use drawing_nodes::decimal;
 use operations::Byte;
 use operations::Operation;
 use operations::alphabet;

@@ -1,5 +1,3 @@
-pub mod Following
-pub mod NodeLines
 pub mod Marks
 pub mod EdgeParts
 pub mod EdgeTexts

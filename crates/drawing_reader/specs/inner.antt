@@ -1,4 +1,3 @@
 -- What serves the crate's private functions and their proofs alone. A reader need not believe it.
-pub mod Nodes
 pub mod Edges
 pub mod Whole

@@ -9,9 +9,7 @@ ghost use Rattle.drawing_label.specs.Label.{LabelFormed, labelOf, labelFor, Fie
 ghost use Rattle.drawing_reader.specs.inner.Edges.{Shaped};
 ghost use Rattle.drawing_reader.specs.inner.Whole.{shapeFor, FromEdges, FromNodes, WholePart, ReadsDrawn};
 
-mod decimal;
 mod edges;
-mod nodes;
 
 use answers::Answer;
 use answers::Refusal;
@@ -74,7 +72,7 @@ fn read_nodes(text: &[u8], at: usize, label: LabelRead, rows: &mut [u16]) -> Dra
     ensures { λ r. ⌜ ReadsDrawn (FromNodes (labelOf label)) (now (text .entry)) at (now (rows .entry)) (r .header) (r .step) (now (rows .exit))
         × Fielded (r .header .upstream) × Fielded (r .header .target) ⌝ }
 {
-    match nodes::nodes(text, at) {
+    match drawing_nodes::nodes(text, at) {
         Part::Stuck(place) => DrawingRead {
             step: Step::Stuck(place),
             header: header_for(label, 0),

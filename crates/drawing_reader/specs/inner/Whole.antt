@@ -13,7 +13,7 @@ use Rattle.image.specs.declared.machine.Header.{Header}
 use Rattle.image.specs.Image.{listed}
 use Rattle.drawing_reader.specs.declared.edges.Shape.{Shape}
 use Rattle.drawing_label.specs.Label.{Label, LabelPart, field, labelFor}
-use Rattle.drawing_reader.specs.inner.Nodes.{NodesPart}
+use Rattle.drawing_nodes.specs.Nodes.{NodesPart}
 use Rattle.drawing_reader.specs.inner.Edges.{RowsPart, rowsTold, Within}
 
 -- what a drawing tells: its label, how many states there are, and the words of each

@@ -14,9 +14,9 @@ use Rattle.printing.specs.Decimal.{decimal}
 use Rattle.printing.specs.Putting.{Fronts}
 use Rattle.printing.proofs.Decimals.{length-digits}
 use Rattle.printing.proofs.Putting.{prints-put, put-fronts}
-use Rattle.drawing_reader.proofs.Following.{follow-then}
-use Rattle.drawing_reader.proofs.decimal.follow_decimal.Statement.{statement}
-use Rattle.drawing_reader.proofs.decimal.follow_decimal.Tie as tie
+use Rattle.drawing_nodes.proofs.Following.{follow-then}
+use Rattle.drawing_nodes.proofs.decimal.follow_decimal.Statement.{statement}
+use Rattle.drawing_nodes.proofs.decimal.follow_decimal.Tie as tie
 
 -- the digits stand in front
 fronts : (c : tie.After-put-decimal)

@@ -25,7 +25,7 @@ use Rattle.texts.proofs.Telling.{unique-either, some-either, either-first, eith
 use Rattle.printing.specs.Decimal.{decimal}
 use Rattle.printing.specs.Turns.{inTurn}
 use Rattle.drawing.specs.Drawing.{nodeLine}
-use Rattle.drawing_reader.specs.inner.Nodes.{NodesEnd, NodesFrom, NodesPart}
+use Rattle.drawing_nodes.specs.Nodes.{NodesEnd, NodesFrom, NodesPart}
 use Rattle.drawing_label.proofs.Words.{word-found, word-stuck}
 
 pub node-word : (n : ℕ) → T (isWord (nodeLine n))

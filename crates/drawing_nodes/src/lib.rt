@@ -1,7 +1,10 @@
-// The lines of a drawing's nodes: one for each state, from 0.
+// The lines of a drawing's nodes, read back: one for each state, from 0.
 ghost use Rattle.texts.specs.Telling.{Finds};
-ghost use Rattle.drawing_reader.specs.inner.Nodes.{NodesEnd, NodesFrom, NodesPart, nodesTaken};
-use crate::decimal::follow_decimal;
+ghost use Rattle.drawing_nodes.specs.Nodes.{NodesEnd, NodesFrom, NodesPart, nodesTaken};
+
+pub mod decimal;
+
+use decimal::follow_decimal;
 use texts::Part;
 use texts::Step;
 
@@ -35,7 +38,7 @@ fn more_nodes(text: &[u8], at: usize) -> Part
 }
 
 // The place of the first edge, and how many nodes there are.
-pub(crate) fn nodes(text: &[u8], at: usize) -> Part
+pub fn nodes(text: &[u8], at: usize) -> Part
     ensures { λ r. ⌜ Finds NodesPart (now (text .entry)) at (nodesTaken r) ⌝ }
 {
     match follow_decimal(text, at, 0, b";\n") {

@@ -2,9 +2,9 @@
 use mathlib.Core.Path.{sym, _∙_}
 use borrow.Author.Needs.{needs}
 use denote.Ref.{now}
-use Rattle.drawing_reader.proofs.NodeLines.{end-found, end-stuck}
-use Rattle.drawing_reader.proofs.nodes.nodes_end.Statement.{statement}
-use Rattle.drawing_reader.proofs.nodes.nodes_end.Tie as tie
+use Rattle.drawing_nodes.proofs.NodeLines.{end-found, end-stuck}
+use Rattle.drawing_nodes.proofs.nodes_end.Statement.{statement}
+use Rattle.drawing_nodes.proofs.nodes_end.Tie as tie
 
 byte-at-requires : tie.Need-byte-at-requires
 byte-at-requires c κs = search needs

@@ -9,11 +9,11 @@ use denote.Ref.{now}
 use lib.ListN.{getD}
 use Rattle.texts.specs.Telling.{Word, Taken, took, stopped, Finds}
 use Rattle.drawing.specs.Drawing.{nodeLine}
-use Rattle.drawing_reader.specs.inner.Nodes.{NodesFrom}
+use Rattle.drawing_nodes.specs.Nodes.{NodesFrom}
 use Rattle.drawing_label.proofs.Words.{word-found, word-stuck}
-use Rattle.drawing_reader.proofs.NodeLines.{node-word, end-found, nodes-over, nodes-more, nodes-stop, no-more}
-use Rattle.drawing_reader.proofs.nodes.more_nodes.Statement.{statement}
-use Rattle.drawing_reader.proofs.nodes.more_nodes.Tie as tie
+use Rattle.drawing_nodes.proofs.NodeLines.{node-word, end-found, nodes-over, nodes-more, nodes-stop, no-more}
+use Rattle.drawing_nodes.proofs.more_nodes.Statement.{statement}
+use Rattle.drawing_nodes.proofs.more_nodes.Tie as tie
 
 abbrev Inv-loop : tie.InvT-loop
 Inv-loop text at here₀ number₀ t7 here number =

@@ -3,9 +3,9 @@ use borrow.Author.Needs.{needs}
 use denote.Ref.{now}
 use Rattle.drawing.specs.Drawing.{nodeLine}
 use Rattle.drawing_label.proofs.Words.{word-found, word-stuck}
-use Rattle.drawing_reader.proofs.NodeLines.{node-word, nodes-go, nodes-none}
-use Rattle.drawing_reader.proofs.nodes.nodes.Statement.{statement}
-use Rattle.drawing_reader.proofs.nodes.nodes.Tie as tie
+use Rattle.drawing_nodes.proofs.NodeLines.{node-word, nodes-go, nodes-none}
+use Rattle.drawing_nodes.proofs.nodes.Statement.{statement}
+use Rattle.drawing_nodes.proofs.nodes.Tie as tie
 
 slice-aggregate-follow-decimal : tie.Need-slice-aggregate-follow-decimal
 slice-aggregate-follow-decimal c = search needs

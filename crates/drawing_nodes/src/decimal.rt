@@ -6,7 +6,7 @@ ghost use Rattle.printing.specs.Decimal.{decimal};
 use texts::Step;
 
 // A number in decimal and a word behind it, at a place of the text.
-pub(crate) fn follow_decimal<'a>(text: &'a [u8], at: usize, number: usize, after: &'a [u8]) -> Step
+pub fn follow_decimal<'a>(text: &'a [u8], at: usize, number: usize, after: &'a [u8]) -> Step
     ensures { λ r. ⌜ r ≡ followAt (decimal number ++ now (after .entry)) (now (text .entry)) at ⌝ }
 {
     let mut digits = [0u8; 20];
