@@ -27,11 +27,11 @@ use Rattle.texts.specs.Telling.{Then, Through, Word, Numbered, partTaken, Taken
 use Rattle.texts.proofs.Telling.{unique-then, some-then, then-stops, then-goes, unique-through, some-through, through-took}
 use Rattle.texts.proofs.Telling.{through-stopped, unique-word, some-word, unique-either, some-either, either-first, either-second}
 use Rattle.texts.proofs.NumberPart.{unique-numbered, some-numbered, word-append, decimal-word, first-digit}
-use Rattle.drawing_reader.specs.declared.edges.Shape.{Shape}
-use Rattle.drawing_reader.specs.inner.Edges.{middle, MarkPart, refusedWord, RefusedMark, RefusedLabel, Refused, MarkEnd, Marked}
-use Rattle.drawing_reader.specs.inner.Edges.{LedLabel, Led, EndOf, EdgeEnd, EdgePart, Shaped}
+use Rattle.drawing_edges.specs.declared.Shape.{Shape}
+use Rattle.drawing_edges.specs.Edges.{middle, MarkPart, refusedWord, RefusedMark, RefusedLabel, Refused, MarkEnd, Marked}
+use Rattle.drawing_edges.specs.Edges.{LedLabel, Led, EndOf, EdgeEnd, EdgePart, Shaped}
 use Rattle.drawing_label.proofs.Words.{word-found, word-stuck, number-found, number-stuck}
-use Rattle.drawing_reader.proofs.Marks.{mark-small, unique-mark, some-mark}
+use Rattle.drawing_edges.proofs.Marks.{mark-small, unique-mark, some-mark}
 
 -- no operation's byte is `?`, so the label's middle is a word
 byte-plain : (op : Operation) → byteOf op ≡ 63 → ⊥

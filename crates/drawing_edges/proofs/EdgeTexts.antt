@@ -17,9 +17,9 @@ use Rattle.texts.specs.Language.{Telling}
 use Rattle.texts.specs.Telling.{Then, Word, Numbered, took, Finds, finds}
 use Rattle.texts.proofs.Language.{seq-join}
 use Rattle.drawing.specs.Drawing.{edgeLine}
-use Rattle.drawing_reader.specs.declared.edges.Shape.{Shape}
-use Rattle.drawing_reader.specs.inner.Edges.{middle, MarkPart, refusedWord, RefusedMark, RefusedLabel, Refused, MarkEnd, Marked, LedLabel}
-use Rattle.drawing_reader.specs.inner.Edges.{Led, EndOf, EdgeEnd, EdgePart, WordOf, EdgeWord, Shaped}
+use Rattle.drawing_edges.specs.declared.Shape.{Shape}
+use Rattle.drawing_edges.specs.Edges.{middle, MarkPart, refusedWord, RefusedMark, RefusedLabel, Refused, MarkEnd, Marked, LedLabel}
+use Rattle.drawing_edges.specs.Edges.{Led, EndOf, EdgeEnd, EdgePart, WordOf, EdgeWord, Shaped}
 
 -- a word and what stands behind it
 word-apart : {B : Type 0} (w : List ℕ) (M : Telling B) (b : B) (t : List ℕ) → Then (Word w) (λ _. M) b t

@@ -18,7 +18,7 @@ use Rattle.operations.specs.Alphabet.{fenceMark}
 use Rattle.operations.proofs.Bytes.{fence-read, written-read}
 use Rattle.texts.specs.Language.{Begins, Longest, Any, Some, Unique}
 use Rattle.texts.specs.Telling.{took, stopped, Finds, finds, departs}
-use Rattle.drawing_reader.specs.inner.Edges.{fenceIn, fenceNumber, MarkPart}
+use Rattle.drawing_edges.specs.Edges.{fenceIn, fenceNumber, MarkPart}
 
 -- the fences that have a mark here
 Markable : ℕ → ℕ → Type 0

@@ -1,13 +1,11 @@
-// The edges of a drawing: a word for each state and letter, read into rows.
-ghost use Prim.Native.Nat.{_+_, _*_, _≤_, _<_};
+// One edge of a drawing, read back: the word of a state and a letter.
+ghost use Prim.Native.Nat.{_≤_, _<_, max, min};
 ghost use mathlib.Core.Path.{_≡_};
 ghost use lib.Dec.{T};
-ghost use lib.ListN.{length};
-ghost use Rattle.operations.specs.Alphabet.{stride};
 ghost use Rattle.texts.specs.Pattern.{isWord, followAt};
 ghost use Rattle.texts.specs.Telling.{Through, Word, Finds, partTaken};
-ghost use Rattle.drawing_reader.specs.inner.Edges.{fenceNumber, middle, MarkPart, RefusedLabel, Refused, Marked};
-ghost use Rattle.drawing_reader.specs.inner.Edges.{LedLabel, Led, EdgeEnd, EdgePart, Shaped, ReadsRow, ReadsRows};
+ghost use Rattle.drawing_edges.specs.Edges.{fenceNumber, middle, MarkPart, RefusedLabel, Refused, Marked};
+ghost use Rattle.drawing_edges.specs.Edges.{LedLabel, Led, EdgeEnd, EdgePart, Shaped, nearest};
 use drawing_nodes::decimal;
 use operations::Byte;
 use operations::Operation;
@@ -18,7 +16,7 @@ use texts::Part;
 use texts::Step;
 
 // How many states a machine has, how many letters, and how many fences its target has.
-pub(crate) struct Shape {
+pub struct Shape {
     pub states: u8,
     pub letters: usize,
     pub targets: usize,
@@ -154,43 +152,33 @@ fn edge(text: &[u8], at: usize, shape: Shape, state: usize, letter: usize) -> Pa
     }
 }
 
-// The edges of a state: their words to its row.
-fn edge_row(text: &[u8], start: usize, rows: &mut [u16], shape: Shape, state: usize) -> Step
-    requires { ⌜ Shaped shape × (state * stride + shape .letters ≤ length (now rows)) ⌝ }
-    ensures { λ r. ⌜ ReadsRow shape state (now (text .entry)) start (now (rows .entry)) r (now (rows .exit)) ⌝ }
+// A machine has at least one state.
+fn at_least_one(states: u8) -> u8
+    ensures { λ r. ⌜ r ≡ min (max 1 states) 255 ⌝ }
 {
-    let letters = shape.letters;
-    let mut here = start;
-    let mut letter = 0;
-    while letter < letters {
-        match edge(text, here, shape, state, letter) {
-            Part::Stuck(place) => return Step::Stuck(place),
-            Part::Next(past, word) => {
-                rows[state * STRIDE + letter] = word as u16;
-                here = past;
-                letter += 1;
-            }
-        }
+    if states == 0 {
+        return 1;
     }
-    Step::Next(here)
+    states
 }
 
-// The edges of all states: their words to the rows.
-pub(crate) fn edge_rows(text: &[u8], start: usize, rows: &mut [u16], shape: Shape) -> Step
-    requires { ⌜ Shaped shape × (shape .states * stride ≤ length (now rows)) ⌝ }
-    ensures { λ r. ⌜ ReadsRows shape (now (text .entry)) start (now (rows .entry)) r (now (rows .exit)) ⌝ }
+fn at_most(n: usize, most: usize) -> usize
+    ensures { λ r. ⌜ r ≡ min n most ⌝ }
 {
-    let states = ground::wide(shape.states);
-    let mut here = start;
-    let mut state = 0;
-    while state < states {
-        match edge_row(text, here, rows, shape, state) {
-            Step::Stuck(place) => return Step::Stuck(place),
-            Step::Next(past) => {
-                here = past;
-                state += 1;
-            }
-        }
+    if most < n {
+        return most;
     }
-    Step::Next(here)
+    n
+}
+
+// The edge of a state and a letter in a machine of any shape: one that no machine has counts as the nearest that one has.
+pub fn edge_line(text: &[u8], at: usize, shape: Shape, state: usize, letter: usize) -> Part
+    ensures { λ r. ⌜ Finds (EdgePart (nearest shape) state letter) (now (text .entry)) at (partTaken r) ⌝ }
+{
+    let possible = Shape {
+        states: at_least_one(shape.states),
+        letters: at_most(shape.letters, STRIDE),
+        targets: at_most(shape.targets, 16),
+    };
+    edge(text, at, possible, state, letter)
 }

@@ -1,6 +1,3 @@
-pub mod Marks
-pub mod EdgeParts
-pub mod EdgeTexts
 pub mod EdgeRows
 pub mod EdgeLines
 pub mod Whole

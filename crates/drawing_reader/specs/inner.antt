@@ -1,3 +1,3 @@
 -- What serves the crate's private functions and their proofs alone. A reader need not believe it.
-pub mod Edges
+pub mod Rows
 pub mod Whole

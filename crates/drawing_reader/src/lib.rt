@@ -6,15 +6,15 @@ ghost use Rattle.answers.specs.Given.{Answers};
 ghost use Rattle.operations.specs.Alphabet.{stride};
 ghost use Rattle.drawing_reader.specs.Undrawing.{Undrawn};
 ghost use Rattle.drawing_label.specs.Label.{LabelFormed, labelOf, labelFor, Fielded, Fits};
-ghost use Rattle.drawing_reader.specs.inner.Edges.{Shaped};
+ghost use Rattle.drawing_edges.specs.Edges.{Shaped};
 ghost use Rattle.drawing_reader.specs.inner.Whole.{shapeFor, FromEdges, FromNodes, WholePart, ReadsDrawn};
 
 mod edges;
 
 use answers::Answer;
 use answers::Refusal;
+use drawing_edges::Shape;
 use drawing_label::LabelRead;
-use edges::Shape;
 use image::machine::Header;
 use image::writer;
 use operations::alphabet::ACCESSES;

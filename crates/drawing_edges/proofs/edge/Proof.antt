@@ -1,8 +1,8 @@
 -- `edge` meets its contract: the state and the arrow decide, and then the rest. Assumes nothing.
-use Rattle.drawing_reader.proofs.EdgeParts.{edge-stops, edge-goes}
+use Rattle.drawing_edges.proofs.EdgeParts.{edge-stops, edge-goes}
 use borrow.Author.Needs.{needs}
-use Rattle.drawing_reader.proofs.edges.edge.Statement.{statement}
-use Rattle.drawing_reader.proofs.edges.edge.Tie as tie
+use Rattle.drawing_edges.proofs.edge.Statement.{statement}
+use Rattle.drawing_edges.proofs.edge.Tie as tie
 
 slice-aggregate-follow-decimal : tie.Need-slice-aggregate-follow-decimal
 slice-aggregate-follow-decimal c = search needs

@@ -1,8 +1,8 @@
 -- `edge_end` meets its contract: the letter decides, and then the first byte. Assumes nothing.
-use Rattle.drawing_reader.proofs.EdgeParts.{end-fence, end-refused, end-led}
+use Rattle.drawing_edges.proofs.EdgeParts.{end-fence, end-refused, end-led}
 use borrow.Author.Needs.{needs}
-use Rattle.drawing_reader.proofs.edges.edge_end.Statement.{statement}
-use Rattle.drawing_reader.proofs.edges.edge_end.Tie as tie
+use Rattle.drawing_edges.proofs.edge_end.Statement.{statement}
+use Rattle.drawing_edges.proofs.edge_end.Tie as tie
 
 led-end-requires : tie.Need-led-end-requires
 led-end-requires c κs = search needs

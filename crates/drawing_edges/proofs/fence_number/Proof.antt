@@ -1,8 +1,8 @@
 -- `fence_number` meets its contract: a byte is a fence, an access or nothing. Assumes nothing.
-use Rattle.drawing_reader.proofs.Marks.{named-fence, named-access, named-nothing}
+use Rattle.drawing_edges.proofs.Marks.{named-fence, named-access, named-nothing}
 use borrow.Author.Needs.{needs}
-use Rattle.drawing_reader.proofs.edges.fence_number.Statement.{statement}
-use Rattle.drawing_reader.proofs.edges.fence_number.Tie as tie
+use Rattle.drawing_edges.proofs.fence_number.Statement.{statement}
+use Rattle.drawing_edges.proofs.fence_number.Tie as tie
 
 read-byte-requires : tie.Need-read-byte-requires
 read-byte-requires c κs = search needs

@@ -8,9 +8,9 @@ use Rattle.operations.specs.Operation.{byteOf}
 use Rattle.operations.specs.Alphabet.{operationOf}
 use Rattle.texts.specs.declared.Step.{Step}
 use Rattle.texts.specs.Pattern.{followAt}
-use Rattle.drawing_reader.specs.inner.Edges.{middle}
-use Rattle.drawing_reader.proofs.edges.label_part.Statement.{statement}
-use Rattle.drawing_reader.proofs.edges.label_part.Tie as tie
+use Rattle.drawing_edges.specs.Edges.{middle}
+use Rattle.drawing_edges.proofs.label_part.Statement.{statement}
+use Rattle.drawing_edges.proofs.label_part.Tie as tie
 
 letter-byte-requires : tie.Need-letter-byte-requires
 letter-byte-requires c κs = search needs

@@ -1,10 +1,10 @@
 -- `led_end` meets its contract: the number decides, and then the rest. Assumes nothing.
 use native.Mathlib.Omega.{arith}
 use denote.Ref.{now}
-use Rattle.drawing_reader.proofs.EdgeParts.{next-small, led-stops, led-goes}
+use Rattle.drawing_edges.proofs.EdgeParts.{next-small, led-stops, led-goes}
 use borrow.Author.Needs.{needs}
-use Rattle.drawing_reader.proofs.edges.led_end.Statement.{statement}
-use Rattle.drawing_reader.proofs.edges.led_end.Tie as tie
+use Rattle.drawing_edges.proofs.led_end.Statement.{statement}
+use Rattle.drawing_edges.proofs.led_end.Tie as tie
 
 number-requires : tie.Need-number-requires
 number-requires c κs = search needs

@@ -1,8 +1,8 @@
 -- `mark` meets its contract: one law for each way that it returns. Assumes nothing.
-use Rattle.drawing_reader.proofs.Marks.{mark-over, mark-dash, mark-fence, mark-other}
+use Rattle.drawing_edges.proofs.Marks.{mark-over, mark-dash, mark-fence, mark-other}
 use borrow.Author.Needs.{needs}
-use Rattle.drawing_reader.proofs.edges.mark.Statement.{statement}
-use Rattle.drawing_reader.proofs.edges.mark.Tie as tie
+use Rattle.drawing_edges.proofs.mark.Statement.{statement}
+use Rattle.drawing_edges.proofs.mark.Tie as tie
 
 returns : tie.Need-returns
 returns c = search (mark-over, needs)

@@ -1,10 +1,10 @@
 -- `marked` meets its contract: the mark decides, and then the rest. Assumes nothing.
 use Prim.Native.Nat.{_≤_}
 use native.Mathlib.Omega.{arith}
-use Rattle.drawing_reader.proofs.EdgeParts.{fence-small, marked-stops, marked-goes}
+use Rattle.drawing_edges.proofs.EdgeParts.{fence-small, marked-stops, marked-goes}
 use borrow.Author.Needs.{needs}
-use Rattle.drawing_reader.proofs.edges.marked.Statement.{statement}
-use Rattle.drawing_reader.proofs.edges.marked.Tie as tie
+use Rattle.drawing_edges.proofs.marked.Statement.{statement}
+use Rattle.drawing_edges.proofs.marked.Tie as tie
 
 mark-requires : tie.Need-mark-requires
 mark-requires c κs = search needs

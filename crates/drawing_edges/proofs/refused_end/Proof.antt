@@ -1,8 +1,8 @@
 -- `refused_end` meets its contract: the word decides, and then the rest. Assumes nothing.
-use Rattle.drawing_reader.proofs.EdgeParts.{refused-stops, refused-goes}
+use Rattle.drawing_edges.proofs.EdgeParts.{refused-stops, refused-goes}
 use borrow.Author.Needs.{needs}
-use Rattle.drawing_reader.proofs.edges.refused_end.Statement.{statement}
-use Rattle.drawing_reader.proofs.edges.refused_end.Tie as tie
+use Rattle.drawing_edges.proofs.refused_end.Statement.{statement}
+use Rattle.drawing_edges.proofs.refused_end.Tie as tie
 
 slice-aggregate-follow : tie.Need-slice-aggregate-follow
 slice-aggregate-follow c = search needs

@@ -1,8 +1,8 @@
 -- `refused_label` meets its contract: the middle decides, and then the rest. Assumes nothing.
-use Rattle.drawing_reader.proofs.EdgeParts.{refused-label-stops, refused-label-goes}
+use Rattle.drawing_edges.proofs.EdgeParts.{refused-label-stops, refused-label-goes}
 use borrow.Author.Needs.{needs}
-use Rattle.drawing_reader.proofs.edges.refused_label.Statement.{statement}
-use Rattle.drawing_reader.proofs.edges.refused_label.Tie as tie
+use Rattle.drawing_edges.proofs.refused_label.Statement.{statement}
+use Rattle.drawing_edges.proofs.refused_label.Tie as tie
 
 label-part-requires : tie.Need-label-part-requires
 label-part-requires c κs = search needs

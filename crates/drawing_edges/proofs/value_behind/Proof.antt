@@ -1,8 +1,8 @@
 -- `value_behind` meets its contract: the word is followed, or it is not. Assumes nothing.
-use Rattle.drawing_reader.proofs.EdgeParts.{last-stops, last-goes}
+use Rattle.drawing_edges.proofs.EdgeParts.{last-stops, last-goes}
 use borrow.Author.Needs.{needs}
-use Rattle.drawing_reader.proofs.edges.value_behind.Statement.{statement}
-use Rattle.drawing_reader.proofs.edges.value_behind.Tie as tie
+use Rattle.drawing_edges.proofs.value_behind.Statement.{statement}
+use Rattle.drawing_edges.proofs.value_behind.Tie as tie
 
 follow-requires : tie.Need-follow-requires
 follow-requires c κs = search needs
