@@ -28,8 +28,8 @@ use Rattle.image.proofs.Canonicals.{length-image, canonical-accepted, same-head
 use Rattle.image.proofs.Fronts.{at-listed}
 use Rattle.image.proofs.Theorems.{written-read}
 use Rattle.drawing.specs.Drawing.{wayWord, nodeLine, stateEdges, drawingOf}
-use Rattle.drawing_reader.specs.inner.Label.{field}
-use Rattle.drawing_reader.proofs.Fields.{field-formed, field-name, name-formed}
+use Rattle.drawing_label.specs.Label.{field}
+use Rattle.drawing_label.proofs.Fields.{field-formed, field-name, name-formed}
 use Rattle.demands.specs.Drawings.{Kept, DrawnAs, withNames, Renamed}
 use Rattle.demands.proofs.Drawings.{machine-drawn, drawn-machine}
 

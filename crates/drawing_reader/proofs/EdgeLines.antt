@@ -19,9 +19,10 @@ use Rattle.texts.specs.Telling.{Through, Items}
 use Rattle.texts.proofs.Language.{seq-join}
 use Rattle.image.specs.Image.{word}
 use Rattle.drawing.specs.Drawing.{leadsTo, edgeLabel, edgeLine, stateEdges}
-use Rattle.drawing_reader.specs.declared.edges.Shape.{Shape}
-use Rattle.drawing_reader.specs.inner.Edges.{EdgePart, RowPart, RowsPart, WordOf, EdgeWord, inOrder, rowTold, rowsTold, RowsAre, Shaped}
-use Rattle.drawing_reader.proofs.EdgeTexts.{edge-told, edge-written}
+use Rattle.drawing_edges.specs.declared.Shape.{Shape}
+use Rattle.drawing_edges.specs.Edges.{EdgePart, WordOf, EdgeWord, Shaped}
+use Rattle.drawing_reader.specs.inner.Rows.{RowPart, RowsPart, inOrder, rowTold, rowsTold, RowsAre}
+use Rattle.drawing_edges.proofs.EdgeTexts.{edge-told, edge-written}
 
 -- values in order
 module _ {A : Type 0} (f : ℕ → A) (d : A) where

@@ -15,11 +15,12 @@ use Rattle.texts.specs.Language.{Any, Some, Unique}
 use Rattle.texts.specs.Telling.{Items, partTaken, took, Finds}
 use Rattle.texts.proofs.Telling.{unique-items, some-items, items-none, items-more, items-stop}
 use Rattle.image.specs.Image.{word}
-use Rattle.drawing_reader.specs.declared.edges.Shape.{Shape}
-use Rattle.drawing_reader.specs.inner.Edges.{EdgePart, RowPart, RowsPart, inOrder, rowTold}
-use Rattle.drawing_reader.specs.inner.Edges.{rowsTold, rowTaken, Shaped, Within, ReadsRow, ReadsRows}
-use Rattle.drawing_reader.proofs.EdgeParts.{unique-edge, some-edge}
-use Rattle.drawing_reader.proofs.EdgeTexts.{edge-small}
+use Rattle.drawing_edges.specs.declared.Shape.{Shape}
+use Rattle.drawing_edges.specs.Edges.{EdgePart, Shaped, nearest}
+use Rattle.drawing_reader.specs.inner.Rows.{RowPart, RowsPart, inOrder, rowTold, rowsTold, rowTaken, Within, ReadsRow, ReadsRows}
+use Rattle.drawing_edges.proofs.EdgeParts.{unique-edge, some-edge}
+use Rattle.drawing_edges.proofs.EdgeTexts.{edge-small}
+use Rattle.drawing_edges.proofs.Shapes.{edge-own}
 
 in-order-same : {A : Type 0} (f g : ℕ → A) (n : ℕ) → ((i : ℕ) → i < n → f i ≡ g i) → inOrder f n ≡ inOrder g n
 unfolding inOrder
@@ -77,9 +78,9 @@ module _ (sh : Shape) (shaped : Shaped sh) (state : ℕ) (t : List ℕ) (start :
       all : letter ≡ sh .letters
       all = omega (arith, so-far .few)
 
-  module _ (l : letter < sh .letters) (r : Part) (edge : Finds (EdgePart sh state letter) t here (partTaken r)) where
+  module _ (l : letter < sh .letters) (r : Part) (edge : Finds (EdgePart (nearest sh) state letter) t here (partTaken r)) where
     edge-is : {s : Part} → r ≡ s → Finds (EdgePart sh state letter) t here (partTaken s)
-    edge-is e = subst (λ (s : Part). Finds (EdgePart sh state letter) t here (partTaken s)) e edge
+    edge-is e = subst (λ (s : Part). Finds (EdgePart sh state letter) t here (partTaken s)) e (edge-own sh state letter shaped edge)
 
     pub row-stop : {p : ℕ} → r ≡ Part.Stuck p → ReadsRow sh state t start rows₀ (Step.Stuck p) rows
     row-stop e = record {

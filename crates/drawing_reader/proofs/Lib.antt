@@ -1,11 +1,3 @@
-pub mod Following
-pub mod Words
-pub mod NodeLines
-pub mod Fields
-pub mod Labels
-pub mod Marks
-pub mod EdgeParts
-pub mod EdgeTexts
 pub mod EdgeRows
 pub mod EdgeLines
 pub mod Whole

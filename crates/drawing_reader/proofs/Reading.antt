@@ -23,15 +23,16 @@ use Rattle.image.specs.Image.{word, Canonical}
 use Rattle.image.proofs.SameWords.{canonical-words}
 use Rattle.drawing.specs.Drawing.{nodeLine, drawingOf}
 use Rattle.drawing.proofs.SameWords.{drawing-of-words}
-use Rattle.drawing_reader.specs.declared.edges.Shape.{Shape}
-use Rattle.drawing_reader.specs.declared.label.LabelRead.{LabelRead}
+use Rattle.drawing_edges.specs.declared.Shape.{Shape}
+use Rattle.drawing_label.specs.declared.LabelRead.{LabelRead}
 use Rattle.drawing_reader.specs.Undrawing.{Drawing}
-use Rattle.drawing_reader.specs.inner.Label.{Label, LabelPart, LabelFormed, labelOf, labelFor, labelTaken, takenBy, Fielded}
-use Rattle.drawing_reader.specs.inner.Nodes.{NodesPart, nodesTaken}
-use Rattle.drawing_reader.specs.inner.Edges.{RowsPart, Shaped, ReadsRows, rowsTaken}
+use Rattle.drawing_label.specs.Label.{Label, LabelPart, LabelFormed, labelOf, labelFor, labelTaken, takenBy, Fielded}
+use Rattle.drawing_nodes.specs.Nodes.{NodesPart, nodesTaken}
+use Rattle.drawing_edges.specs.Edges.{Shaped}
+use Rattle.drawing_reader.specs.inner.Rows.{RowsPart, ReadsRows, rowsTaken}
 use Rattle.drawing_reader.specs.inner.Whole.{Drawn, shapeFor, DrawingEnd, FromEdges, FromNodes, WholePart, drawnFor, drawnTaken, ReadsDrawn}
-use Rattle.drawing_reader.proofs.Labels.{unique-label, told-formed}
-use Rattle.drawing_reader.proofs.NodeLines.{unique-nodes, nodes-text}
+use Rattle.drawing_label.proofs.Labels.{unique-label, told-formed}
+use Rattle.drawing_nodes.proofs.NodeLines.{unique-nodes, nodes-text}
 use Rattle.drawing_reader.proofs.EdgeRows.{unique-rows}
 use Rattle.drawing_reader.proofs.Whole.{shaped-for, some-end, some-edges, edges-begin, some-behind-nodes, some-behind-label}
 use Rattle.drawing_reader.proofs.Whole.{unique-whole, drawing-told, any-drawing, drawing-any}

@@ -12,10 +12,10 @@ use Rattle.image.specs.declared.machine.Header.{Header}
 use Rattle.image.specs.Image.{word, imageOf, Canonical}
 use Rattle.image.proofs.SameWords.{image-of-words}
 use Rattle.drawing.specs.Drawing.{drawingOf}
-use Rattle.drawing_reader.specs.inner.Label.{Label, field}
-use Rattle.drawing_reader.specs.inner.Edges.{rowTold}
+use Rattle.drawing_label.specs.Label.{Label, field}
+use Rattle.drawing_reader.specs.inner.Rows.{rowTold}
 use Rattle.drawing_reader.specs.inner.Whole.{Drawn, WholePart, drawnFor}
-use Rattle.drawing_reader.proofs.Fields.{name-field}
+use Rattle.drawing_label.proofs.Fields.{name-field}
 use Rattle.drawing_reader.proofs.EdgeLines.{at-in-order}
 use Rattle.drawing_reader.proofs.Whole.{unique-whole, drawing-whole}
 

@@ -21,15 +21,16 @@ use Rattle.image.specs.declared.machine.Header.{Header}
 use Rattle.image.specs.Image.{word, Canonical, NameField}
 use Rattle.image.proofs.Fronts.{at-listed}
 use Rattle.drawing.specs.Drawing.{nodeLine, stateEdges, labelLine, drawingOf}
-use Rattle.drawing_reader.specs.declared.edges.Shape.{Shape}
+use Rattle.drawing_edges.specs.declared.Shape.{Shape}
 use Rattle.drawing_reader.specs.Undrawing.{Drawing}
-use Rattle.drawing_reader.specs.inner.Label.{Label, LabelPart, LabelFormed, labelText, labelFor, field, Fielded}
-use Rattle.drawing_reader.specs.inner.Nodes.{NodesPart}
-use Rattle.drawing_reader.specs.inner.Edges.{RowsPart, RowsAre, Shaped, EdgeWord, WordOf, rowTold, rowsTold}
+use Rattle.drawing_label.specs.Label.{Label, LabelPart, LabelFormed, labelText, labelFor, field, Fielded}
+use Rattle.drawing_nodes.specs.Nodes.{NodesPart}
+use Rattle.drawing_edges.specs.Edges.{Shaped, EdgeWord, WordOf}
+use Rattle.drawing_reader.specs.inner.Rows.{RowsPart, RowsAre, rowTold, rowsTold}
 use Rattle.drawing_reader.specs.inner.Whole.{Drawn, shapeFor, DrawingEnd, FromEdges, FromNodes, WholePart, headerFor, rowsFor, drawnFor}
-use Rattle.drawing_reader.proofs.Fields.{field-formed, field-name, name-formed}
-use Rattle.drawing_reader.proofs.Labels.{unique-label, label-text, text-label, label-line}
-use Rattle.drawing_reader.proofs.NodeLines.{unique-nodes, some-nodes, nodes-text, text-nodes}
+use Rattle.drawing_label.proofs.Fields.{field-formed, field-name, name-formed}
+use Rattle.drawing_label.proofs.Labels.{unique-label, label-text, text-label, label-line}
+use Rattle.drawing_nodes.proofs.NodeLines.{unique-nodes, some-nodes, nodes-text, text-nodes}
 use Rattle.drawing_reader.proofs.EdgeRows.{unique-rows, some-rows}
 use Rattle.drawing_reader.proofs.EdgeLines.{in-order-all, access-word, word-access, fence-word}
 use Rattle.drawing_reader.proofs.EdgeLines.{word-fence, rows-told, rows-written, rows-of, rows-begin}

@@ -1,6 +1,3 @@
--- What serves the crate's private functions and their proofs alone, and a name's field (Label), which the proofs of `demands` use. A reader need not
--- believe it.
-pub mod Label
-pub mod Nodes
-pub mod Edges
+-- What serves the crate's private functions and their proofs alone. A reader need not believe it.
+pub mod Rows
 pub mod Whole

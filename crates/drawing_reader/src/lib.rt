@@ -5,21 +5,18 @@ ghost use lib.ListN.{length};
 ghost use Rattle.answers.specs.Given.{Answers};
 ghost use Rattle.operations.specs.Alphabet.{stride};
 ghost use Rattle.drawing_reader.specs.Undrawing.{Undrawn};
-ghost use Rattle.drawing_reader.specs.inner.Label.{LabelFormed, labelOf, labelFor, Fielded, Fits};
-ghost use Rattle.drawing_reader.specs.inner.Edges.{Shaped};
+ghost use Rattle.drawing_label.specs.Label.{LabelFormed, labelOf, labelFor, Fielded, Fits};
+ghost use Rattle.drawing_edges.specs.Edges.{Shaped};
 ghost use Rattle.drawing_reader.specs.inner.Whole.{shapeFor, FromEdges, FromNodes, WholePart, ReadsDrawn};
 
-mod decimal;
 mod edges;
-mod label;
-mod nodes;
 
 use answers::Answer;
 use answers::Refusal;
-use edges::Shape;
+use drawing_edges::Shape;
+use drawing_label::LabelRead;
 use image::machine::Header;
 use image::writer;
-use label::LabelRead;
 use operations::alphabet::ACCESSES;
 use operations::alphabet::STRIDE;
 use operations::alphabet::WORDS;
@@ -75,7 +72,7 @@ fn read_nodes(text: &[u8], at: usize, label: LabelRead, rows: &mut [u16]) -> Dra
     ensures { λ r. ⌜ ReadsDrawn (FromNodes (labelOf label)) (now (text .entry)) at (now (rows .entry)) (r .header) (r .step) (now (rows .exit))
         × Fielded (r .header .upstream) × Fielded (r .header .target) ⌝ }
 {
-    match nodes::nodes(text, at) {
+    match drawing_nodes::nodes(text, at) {
         Part::Stuck(place) => DrawingRead {
             step: Step::Stuck(place),
             header: header_for(label, 0),
@@ -94,7 +91,7 @@ fn read(text: &[u8], rows: &mut [u16]) -> DrawingRead
     ensures { λ r. ⌜ ReadsDrawn WholePart (now (text .entry)) 0 (now (rows .entry)) (r .header) (r .step) (now (rows .exit))
         × Fielded (r .header .upstream) × Fielded (r .header .target) ⌝ }
 {
-    let label = label::label(text);
+    let label = drawing_label::label(text);
     let step = label.step;
     match step {
         Step::Stuck(place) => DrawingRead {

@@ -2,7 +2,7 @@
 use mathlib.Core.Path.{sym, subst}
 use borrow.Author.Needs.{needs}
 use denote.Ref.{now}
-use Rattle.drawing_reader.specs.inner.Edges.{Shaped}
+use Rattle.drawing_edges.specs.Edges.{Shaped}
 use Rattle.drawing_reader.proofs.Reading.{shape-is, edges-stop, edges-end}
 use Rattle.drawing_reader.proofs.read_edges.Statement.{statement}
 use Rattle.drawing_reader.proofs.read_edges.Tie as tie

@@ -1,7 +1,7 @@
 -- `read_nodes` meets its contract: the nodes, and the edges from the `0` behind them on. Assumes nothing.
 use borrow.Author.Needs.{needs}
 use denote.Ref.{now}
-use Rattle.drawing_reader.specs.inner.Label.{labelOf}
+use Rattle.drawing_label.specs.Label.{labelOf}
 use Rattle.drawing_reader.proofs.Reading.{header-shaped, nodes-stop, nodes-few, nodes-go}
 use Rattle.drawing_reader.proofs.read_nodes.Statement.{statement}
 use Rattle.drawing_reader.proofs.read_nodes.Tie as tie

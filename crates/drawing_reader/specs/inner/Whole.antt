@@ -11,10 +11,10 @@ use Rattle.texts.specs.Language.{Telling}
 use Rattle.texts.specs.Telling.{Then, Through, After, Word, Taken, took, stopped, Finds}
 use Rattle.image.specs.declared.machine.Header.{Header}
 use Rattle.image.specs.Image.{listed}
-use Rattle.drawing_reader.specs.declared.edges.Shape.{Shape}
-use Rattle.drawing_reader.specs.inner.Label.{Label, LabelPart, field, labelFor}
-use Rattle.drawing_reader.specs.inner.Nodes.{NodesPart}
-use Rattle.drawing_reader.specs.inner.Edges.{RowsPart, rowsTold, Within}
+use Rattle.drawing_edges.specs.declared.Shape.{Shape}
+use Rattle.drawing_label.specs.Label.{Label, LabelPart, field, labelFor}
+use Rattle.drawing_nodes.specs.Nodes.{NodesPart}
+use Rattle.drawing_reader.specs.inner.Rows.{RowsPart, rowsTold, Within}
 
 -- what a drawing tells: its label, how many states there are, and the words of each
 pub record Drawn : Type 0 where

@@ -15,8 +15,8 @@ abbrev μ-loop : tie.MeasureT-loop
 loop-holds : tie.Need-loop-holds Inv-loop μ-loop
 loop-holds c = row-none _ _ _ _ _
 
-edge-requires : tie.Need-edge-requires Inv-loop μ-loop
-edge-requires c κs = search needs
+edge-line-requires : tie.Need-edge-line-requires Inv-loop μ-loop
+edge-line-requires c κs = search needs
 
 enum-known-place : tie.Need-enum-known-place Inv-loop μ-loop
 enum-known-place c = search needs
@@ -56,7 +56,7 @@ loop-again c =
     let edge = c .before .before .before in
     let inside = edge .before in
     let loop = inside .before in
-    row-more _ (loop .before .before .before .pre .0) _ _ _ _ _ _ _ (loop .loop .inv) (inside .loop-test .taken) _ (edge .edge .ensures)
+    row-more _ (loop .before .before .before .pre .0) _ _ _ _ _ _ _ (loop .loop .inv) (inside .loop-test .taken) _ (edge .edge-line .ensures)
     (c .before .past .given .1) (omega (arith, loop .loop .inv .size, inside .loop-test .taken, loop .before .before .before .pre .1))
 
 same-length-2 : tie.Need-same-length-2 Inv-loop μ-loop
@@ -72,7 +72,7 @@ edge-row-spec =
     Inv-loop
     μ-loop
     loop-holds
-    edge-requires
+    edge-line-requires
     enum-known-place
     same-length
     returns

@@ -1,0 +1,5 @@
+pub mod Marks
+pub mod EdgeParts
+pub mod EdgeTexts
+pub mod Shapes
+pub mod Unique

@@ -1,0 +1,3 @@
+mod Following
+pub mod NodeLines
+pub mod Unique
