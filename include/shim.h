@@ -55,6 +55,9 @@
 extern "C" {
 #endif
 
+/* The version of the library, and of the command `shim` over it. */
+#define SHIM_VERSION "0.1.0"
+
 /* The ways of choosing a fence. */
 #define SHIM_SPARING 0 /* the lowest-numbered fence that will do */
 #define SHIM_FULL 1    /* the highest-numbered fence, or none */
