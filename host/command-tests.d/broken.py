@@ -1,6 +1,4 @@
 """Input that is refused, one example for each thing that can be wrong."""
-import re
-
 from good import BARE
 from papers import BLOCK, changed, renewed
 
@@ -69,24 +67,34 @@ NO_FENCE = {
 }
 
 
+NO_END = "a model's text ends with a line 'end', and there must be two texts"
+NO_WAY = "a line 'way full' or 'way sparing' must stand here"
+NO_RUN = "a line of 'run ' and a stream must stand here"
+NO_LINE_FEED = "the line must end in a line feed"
+RETURNS = "; lines end in a line feed alone"
+
+
 def shapes(up, target):
-    """Inputs of another shape, with the place where that shows and words that the sentence must have."""
+    """Inputs of another shape, with the place where that shows and the sentence."""
     both, way = up + target, b"way full\n"
-    returns = (both + way + b"run l\n").replace(b"\n", b"\r\n")
+    run = both + way
+    returns = (run + b"run l\n").replace(b"\n", b"\r\n")
     return {
-        "empty": (b"", 0, ["end"]),
-        "no-end": (up[:-4], len(up) - 4, ["end"]),
-        "one-end": (up + target[:-4], len(both) - 4, ["end"]),
-        "end-with-return": (returns, len(returns), ["end", "; lines end in a line feed alone"]),
-        "no-way": (both + b"run l\n", len(both), ["way full", "way sparing"]),
-        "cut-before-way": (both, len(both), ["way full", "way sparing"]),
-        "another-way": (both + b"way fast\nrun l\n", len(both), ["way full", "way sparing"]),
-        "no-run": (both + way, len(both + way), ["run "]),
-        "another-run": (both + way + b"runs l\n", len(both + way), ["run "]),
-        "no-line-feed": (both + way + b"run l", len(both + way) + 5, ["line feed"]),
+        "empty": (b"", 0, NO_END), "no-end": (up[:-4], len(up) - 4, NO_END), "one-end": (up + target[:-4], len(both) - 4, NO_END),
+        "end-with-return": (returns, len(returns), NO_END + RETURNS),
+        "no-way": (both + b"run l\n", len(both), NO_WAY), "cut-before-way": (both, len(both), NO_WAY),
+        "another-way": (both + b"way fast\nrun l\n", len(both), NO_WAY),
+        "way-with-return": (both + b"way full\r\nrun l\n", len(both), NO_WAY + RETURNS),
+        "way-cut": (both + b"way ful", len(both), NO_WAY), "way-unended": (both + b"way full", len(both) + 8, NO_LINE_FEED),
+        "sparing-unended": (both + b"way sparing", len(both) + 11, NO_LINE_FEED),
+        "no-run": (run, len(run), NO_RUN), "another-run": (run + b"runs l\n", len(run), NO_RUN), "run-cut": (run + b"run", len(run), NO_RUN),
+        "no-stream": (run + b"run\n", len(run), NO_RUN),
+        "no-line-feed": (run + b"run l", len(run) + 5, NO_LINE_FEED), "empty-unended": (run + b"run ", len(run) + 4, NO_LINE_FEED),
         # Only here can bytes that are not shown as they are stand before the caret.
-        "escapes": (both + way + b"run l\t\x01\xff\\", len(both + way) + 9, ["line feed"]),
-        "more": (both + way + b"run l\nl\n", len(both + way) + 6, ["nothing may follow"]),
+        "escapes": (run + b"run l\t\x01\xff\\", len(run) + 9, NO_LINE_FEED),
+        "many-escapes": (run + b"run " + b"\t\xff" * 40, len(run) + 84, NO_LINE_FEED),
+        "more": (run + b"run l\nl\n", len(run) + 6, "nothing may follow here"),
+        "more-with-return": (run + b"run l\n\r\n", len(run) + 6, "nothing may follow here" + RETURNS),
     }
 
 
@@ -110,29 +118,45 @@ def images(sound, refusing):
         "header-rest": changed(sound, 39, 1), "header-last": changed(sound, 505, 9), "four-zeros": changed(sound, 506, 1),
         "last-zero": changed(sound, BLOCK + 509, 0x10), "fence": changed(sound, at(0, 0), 0x63), "fence-fd": changed(sound, at(0, 2), 0xFD),
         "next": changed(sound, at(1, 1), 0x50), "refused-next": changed(refusing, refusal + 1, 1), "fence-next": changed(sound, at(0, 8), 0x77),
-        "no-such-fence": changed(sound, at(1, 9), 1), "unused": changed(sound, at(20, 0), 0x42),
+        "no-such-fence": changed(sound, at(1, 9), 1), "fifteenth": changed(sound, at(1, 23), 1), "unused": changed(sound, at(20, 0), 0x42),
+        "behind-last": changed(sound, at(sound[4], 0), 0x42), "in-last": changed(sound, at(sound[4] - 1, 23), 0x42),
     }
 
 
-def field(image, place):
-    """Words for what document 01 has at a byte: each of the tests must find something."""
+HEADER = {
+    2: "the form, which is 1", 3: "the way, 0 or 1", 4: "the number of states, at least 1, which must fit the number of blocks",
+    5: "the number of upstream fences, at most 16", 6: "the number of target fences, at most 16",
+}
+
+
+def header_field(byte):
+    name = "the %s model's name, which is letters, digits and underscores and then zeros"
+    return HEADER.get(byte) or (name % "upstream" if byte < 23 else name % "target" if byte < 39 else "zeros behind the header")
+
+
+def state_field(byte, upstream_fences):
+    """Four pairs of a fence byte and a next state, then sixteen next states, zero where there is no such fence."""
+    if byte >= 8 + upstream_fences:
+        return "zeros for fences that the upstream model does not have"
+    if byte >= 8:
+        return f"next state for upstream fence {byte - 8}, which must be one of the states"
+    if byte % 2:
+        return f"next state for {'lLsS'[byte // 2]}, which must be one of the states, and 0 if refused"
+    return f"fence for {'lLsS'[byte // 2]}: a number of a target fence, FF for none or FE if refused"
+
+
+def barred(image, place):
+    """The sentence of a byte that document 01's layout bars: what the layout has there."""
     block, in_block = divmod(place, BLOCK)
+    state, byte = divmod(in_block - 2, 24)
+    state += 21 * (block - 1)
     if in_block >= 506:
-        return ["zero"]
-    if block == 0:
-        header = {2: ["form"], 3: ["way"], 4: ["states"], 5: ["upstream", "fence"], 6: ["target", "fence"]}
-        names = [] if place < 7 else ["upstream", "name"] if place < 23 else ["target", "name"] if place < 39 else ["zero"]
-        return header.get(place, names)
-    state, byte = 21 * (block - 1) + (in_block - 2) // 24, (in_block - 2) % 24
-    if state >= image[4]:
-        return ["zero|unused|no state"]
-    return ["fence"] if byte in (0, 2, 4, 6) else ["state"]
-
-
-def names_barred_byte(image, place, sentence):
-    found = re.fullmatch(r"byte (\d+) is ([0-9A-F]{2}), which may not stand there: (.+)", sentence)
-    holds = found and int(found.group(1)) == place and int(found.group(2), 16) == image[place]
-    return bool(holds) and all(re.search(word, found.group(3)) for word in field(image, place))
+        field = "zeros before a block's check"
+    elif block == 0:
+        field = header_field(place)
+    else:
+        field = f"state {state}'s {state_field(byte, image[5])}" if state < image[4] else "zeros behind the last state"
+    return f"byte {place} is {image[place]:02X}, which may not stand there: {field}"
 
 
 def drawings(drawing):

@@ -2,12 +2,11 @@
 import errno
 import os
 import resource
-import signal
 import stat
 import subprocess
 import threading
 
-from good import image_of, input_of
+from good import image_of, input_of, model_file
 from refused import standing
 
 TSO_OUT = ["builtin", "1"]
@@ -78,15 +77,40 @@ def unwritable(trial):
     for words, data, _ in outputs(trial):
         ran = trial.run(*words, "-o", "missing/out", data=data)
         failed(trial, ran, "missing/out", "written", errno.ENOENT)
-    name = trial.output()
-    os.mkdir(trial.path(name))
-    ran = trial.run(*TSO_OUT, "-o", name)
-    failed(trial, ran, name, "written", errno.EISDIR)
-    trial.check(ran, os.listdir(trial.path(name)) == [], "something is left in the folder")
-    trial.nothing_left(ran, name)
     if os.geteuid() != 0:
         os.mkdir(trial.path("closed"), 0o555)
         failed(trial, trial.run(*TSO_OUT, "-o", "closed/out"), "closed/out", "written", errno.EACCES)
+
+
+def folders_as_outputs(trial):
+    name = trial.output()
+    os.mkdir(trial.path(name))
+    for word in (name, name + "/", name + "/."):
+        ran = trial.run(*TSO_OUT, "-o", word)
+        failed(trial, ran, word, "written", errno.EISDIR)
+        trial.check(ran, os.listdir(trial.path(name)) == [], "something is left in the folder")
+        trial.nothing_left(ran, name)
+
+
+def protected(trial):
+    """A file that may not be written is not replaced either, by its name or by a link to it. Root may write all."""
+    if os.geteuid() == 0:
+        return
+    name, *names = linked(trial, b"old")
+    os.chmod(trial.path(name), 0o444)
+    before = standing(trial, name)
+    for word in (name, *names):
+        ran = trial.run(*TSO_OUT, "-o", word)
+        failed(trial, ran, word, "written", errno.EACCES)
+        trial.check(ran, standing(trial, name) == before, "the output file is not as it was")
+        trial.nothing_left(ran, name, word)
+
+
+def empty_names(trial):
+    for words, what in (
+        (["model", ""], "read"), (["list", ""], "read"), (["run", "--way", "full", "1", "15", "@"], "read"), ([*TSO_OUT, "-o", ""], "written"),
+    ):
+        failed(trial, trial.run(*words), "''", what, errno.ENOENT)
 
 
 def piped(trial):
@@ -112,8 +136,27 @@ def devices(trial):
     trial.check(ran, stat.S_ISCHR(os.stat("/dev/null").st_mode), "/dev/null is no device any more")
     for words, data, _ in outputs(trial):
         failed(trial, trial.run(*words, "-o", "/dev/full", data=data), "/dev/full", "written", errno.ENOSPC)
-    ran = trial.run(*TSO_OUT, "-o", "/dev/stdout")
-    trial.is_done(ran, trial.model("builtin", "1"))
+    for name in ("/dev/stdout", "/dev/fd/1"):
+        trial.is_done(trial.run(*TSO_OUT, "-o", name), trial.model("builtin", "1"))
+        trial.is_done(trial.run("run", "--way", "full", "1", "15", "ssl0l", "-o", name), b"s0sl0l\nfences 2\n")
+        behind_what_stands(trial, name)
+
+
+def behind_what_stands(trial, name):
+    """Standard output by another name is a file: what stands there stays, and the numbers come behind the stream."""
+    image = image_of(trial, "full", 1, 15)
+    numbers = [
+        (["run", "--way", "full", "1", "15", "ssl0l"], b"", b"s0sl0l\nfences 2\n"),
+        (["image-run", "--start", "0", "-", "ssl0l"], image, b"s0sl0l\nfences 2\nstate 1\n"),
+    ]
+    for words, data, written in outputs(trial) + numbers:
+        file = trial.output()
+        with open(trial.path(file), "wb", buffering=0) as shared:
+            shared.write(b"before\n")
+            ran = trial.run(*words, "-o", name, data=data, stdout=shared)
+            shared.write(b"after\n")
+        trial.is_done(ran, b"")
+        trial.is_written(ran, file, b"before\n" + written + b"after\n")
 
 
 def full_standard_output(trial):
@@ -154,12 +197,9 @@ def closed_standard_output(trial):
     trial.nothing_left(ran, new)
 
 
-def limited(size):
-    """For the run that follows: no file may get larger than this, and to try so is an error, not a signal."""
-    def limit():
-        signal.signal(signal.SIGXFSZ, signal.SIG_IGN)
-        resource.setrlimit(resource.RLIMIT_FSIZE, (size, size))
-    return limit
+def limited(kind, soft, hard):
+    """For the run that follows: a limit. Its signal has the system's own effect, since subprocess gives that back."""
+    return lambda: resource.setrlimit(kind, (soft, hard))
 
 
 def half_written(trial):
@@ -167,13 +207,18 @@ def half_written(trial):
     for turn, (words, data, written) in enumerate(outputs(trial)):
         name = trial.output(*([b"old" * 1000] if turn % 2 else []))
         before = standing(trial, name)
-        ran = trial.run(*words, "-o", name, data=data, preexec_fn=limited(len(written) // 2))
+        half = len(written) // 2
+        ran = trial.run(*words, "-o", name, data=data, preexec_fn=limited(resource.RLIMIT_FSIZE, half, half))
         failed(trial, ran, name, "written", errno.EFBIG)
         trial.check(ran, standing(trial, name) == before, "the output file is not as it was")
         trial.nothing_left(ran, name)
 
 
 # ---- the file that is written
+
+def mode_of(trial, name):
+    return stat.S_IMODE(os.stat(trial.path(name)).st_mode)
+
 
 def modes(trial):
     """An old file's mode stays, a new one's is the umask's."""
@@ -182,12 +227,23 @@ def modes(trial):
         os.chmod(trial.path(name), mode)
         ran = trial.run(*TSO_OUT, "-o", name)
         trial.is_written(ran, name, trial.model("builtin", "1"))
-        trial.check(ran, stat.S_IMODE(os.stat(trial.path(name)).st_mode) == mode, f"the mode must stay {mode:o}")
+        trial.check(ran, mode_of(trial, name) == mode, f"the mode must stay {mode:o}")
     for umask in (0o000, 0o022, 0o027, 0o077):
         name = trial.output()
         ran = trial.run(*TSO_OUT, "-o", name, umask=umask)
         trial.is_written(ran, name, trial.model("builtin", "1"))
-        trial.check(ran, stat.S_IMODE(os.stat(trial.path(name)).st_mode) == 0o666 & ~umask, f"the mode must be the umask's, {umask:o}")
+        trial.check(ran, mode_of(trial, name) == 0o666 & ~umask, f"the mode must be the umask's, {umask:o}")
+
+
+def set_id_bits(trial):
+    """The new file may have another owner, as that of root over a user's file has: nobody else may run as that one."""
+    for owner in (-1, 65534) if os.geteuid() == 0 else (-1,):
+        name = trial.output(b"old")
+        os.chown(trial.path(name), owner, owner)
+        os.chmod(trial.path(name), 0o6755)
+        ran = trial.run(*TSO_OUT, "-o", name)
+        trial.is_written(ran, name, trial.model("builtin", "1"))
+        trial.check(ran, mode_of(trial, name) == 0o755, "the mode must be 755, without set-user-id and set-group-id")
 
 
 def linked(trial, *old):
@@ -261,9 +317,38 @@ def long_inputs(trial):
         trial.check(ran, ran.status == 1 and ran.out == b"" and ran.err.endswith(b"(refused 1 at 0)\n"), "must be refused 1 at 0")
 
 
+# ---- the stack
+
+SMALL = 256 * 1024  # less than shim.h says that generate, list and draw want
+
+
+def stacks(trial):
+    """A small limit is raised, where that may be; else the calls that want more say so, and the others are made.
+
+    A limit would hit an emulator or valgrind first, so it is set only where the command runs by itself."""
+    if len(trial.program) != 1:
+        return
+    hard = resource.getrlimit(resource.RLIMIT_STACK)[1]
+    files = [model_file(trial, "a4096"), model_file(trial, "full")]
+    image, data = image_of(trial, "full", *files), trial.read(files[0]) + trial.read(files[1]) + b"way full\nrun l\n"
+    large = [
+        (["generate", "--way", "full", *files], b"", image), (["generate", "-"], data, image),
+        (["list", "-"], data, trial.model("list", data=data)), (["draw", "-"], image, trial.model("draw", data=image)),
+    ]
+    line = f"shim: the stack: cannot be made as large as the call wants: {os.strerror(errno.EINVAL)}; see ulimit -s\n".encode()
+    for words, given, out in large:
+        trial.is_done(trial.run(*words, data=given, preexec_fn=limited(resource.RLIMIT_STACK, SMALL, hard)), out)
+        ran = trial.run(*words, data=given, preexec_fn=limited(resource.RLIMIT_STACK, SMALL, SMALL))
+        trial.check(ran, ran.status == 2 and ran.out == b"" and ran.err == line, f"must end with status 2 and {line!r}")
+    for words in (["--version"], ["--help"], ["run", "--way", "full", "1", "15", "ssl0l"], ["compare", "1", "2"], ["builtin", "1"]):
+        ran = trial.run(*words, preexec_fn=limited(resource.RLIMIT_STACK, SMALL, SMALL))
+        trial.is_done(ran, trial.run(*words).out)
+
+
 def tried(trial):
     for part in (
-        unreadable, missing, unreadable_input, forgotten_prefix, unwritable, piped, full_standard_output, numbers_unwritten, closed_standard_output,
-        half_written, modes, links, dangling_links, over_its_input, plain_name, long_inputs,
+        unreadable, missing, unreadable_input, forgotten_prefix, unwritable, folders_as_outputs, protected, empty_names, piped,
+        full_standard_output, numbers_unwritten, closed_standard_output, half_written, modes, set_id_bits, links, dangling_links,
+        over_its_input, plain_name, long_inputs, stacks,
     ):
         part(trial)

@@ -25,6 +25,8 @@ AT_THE_LIMITS = [("a4096", "full", "full"), ("st255-up", "st-target", "sparing")
 def lines_of(told, quiet=False):
     """The lines that the command prints for a run that the model tells of."""
     fields = dict(line.split(b" ", 1) for line in told.splitlines())
+    if b"out" not in fields:
+        return told  # the model refuses, so the command must not have done it
     numbers = [b"%s %s\n" % (word, fields[word]) for word in (b"fences", b"state") if word in fields]
     return fields[b"out"] + b"\n" + b"".join([] if quiet else numbers)
 

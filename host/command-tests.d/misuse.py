@@ -69,6 +69,9 @@ def kinds(trial):
     named = inputs(trial)
     for subcommand, words in KINDS:
         misused(trial, subcommand, subcommand, *[named.get(word, word) for word in words.split()])
+    text = trial.model("builtin", "1").decode()
+    for name in ("TSO\n", text[len("model "):], text[len("model "):-len("\nend\n")]):
+        misused(trial, "model", "model", "builtin:" + name)
     for words in (["builtin", ""], ["builtin", " 1"], ["image-run", "--start", "", named["IMAGE"], "l"], ["run", "--way", "", "1", "15", "l"]):
         misused(trial, words[0], *words)
 
@@ -83,6 +86,17 @@ def operands(trial):
         misused(trial, subcommand, subcommand, *words, "--unknown")
     misused(trial, "compare", "compare", "1")
     misused(trial, "run", "run", "--way", "full", "1")
+
+
+def blamed(trial):
+    """The word that is told is the one that is wrong."""
+    for words, blame in (
+        ("run --way=full -xq 1 15 ss", "-x"), ("run --quiet -xq 1 15", "-x"), ("run -qx --way full 1 15 ss", "-x"),
+        ("run --way full 1 15 ss -q -xo", "-x"), ("run --way full --quite 1 15 ss", "--quite"), ("model --x=-y 1", "--x=-y"),
+    ):
+        ran = trial.run(*words.split())
+        trial.check(ran, ran.err.startswith(f"shim: {blame}: there is no such option\n".encode()), f"{blame} is what is wrong")
+        trial.check(ran, ran.status == 2 and ran.out == b"" and usage_of(ran.err, words.split()[0]), "must be misuse, with the usage")
 
 
 def subcommands(trial):
@@ -141,7 +155,7 @@ def versions(trial):
 
 
 def tried(trial):
-    for part in (kinds, operands, subcommands, terminals, helps, versions):
+    for part in (kinds, operands, blamed, subcommands, terminals, helps, versions):
         part(trial)
     made = os.path.exists(trial.path("never-made"))
     trial.check(trial.run("--version"), not made, "misuse must make no file")

@@ -19,7 +19,7 @@ SYNOPSIS = {
 }
 
 BLOCK = 512
-SHOWN_BYTES = 70  # of a line, "some 70"
+SHOWN, SHOWN_BEFORE = 70, 50  # characters of a line, in all and before the place
 LARGEST = 2**64 - 1
 
 
@@ -81,17 +81,19 @@ def excerpt(cells, column, first, last):
     return before + b"".join(cells[column:last]) + dots[1] + b"\n" + b" " * len(before) + b"^\n"
 
 
+def window(cells, column):
+    """The cells that are shown: all if they have room, else as many before the column and then in all as have."""
+    if len(b"".join(cells)) <= SHOWN:
+        return 0, len(cells)
+    first = next(at for at in range(column + 1) if len(b"".join(cells[at:column])) <= SHOWN_BEFORE)
+    return first, max(at for at in range(first, len(cells) + 1) if len(b"".join(cells[first:at])) <= SHOWN)
+
+
 def shows_place(told, text, at):
-    """Is this the line of the text, with the caret under that place? A long line may be cut on either side."""
+    """Is this the line of the text, with the caret under that place?"""
     start, end = text.rfind(b"\n", 0, at) + 1, text.find(b"\n", at)
-    line = text[start:] if end < 0 else text[start:end]
-    cells, column = [escaped(byte) for byte in line], at - start
-    if len(line) <= SHOWN_BYTES - 10:
-        return told == excerpt(cells, column, 0, len(cells))
-    firsts = range(max(0, column - SHOWN_BYTES - 10), column + 1)
-    lasts = range(min(column + 1, len(cells)), min(len(cells), column + SHOWN_BYTES + 10) + 1)
-    cuts = ((first, last) for first in firsts for last in lasts if 40 <= last - first <= SHOWN_BYTES + 10)
-    return any(told == excerpt(cells, column, first, last) for first, last in cuts)
+    cells, column = [escaped(byte) for byte in (text[start:] if end < 0 else text[start:end])], at - start
+    return told == excerpt(cells, column, *window(cells, column))
 
 
 # ---- what refusal 2 says must stand at a place

@@ -4,7 +4,7 @@ from dataclasses import replace
 import broken
 from good import image_of, model_file
 from papers import LARGEST, changed, escaped, says_not_of_the_form
-from refused import TOO_LONG, Fault, answer, by_file_or_pipe, refused
+from refused import Fault, answer, by_file_or_pipe, refused, too_long
 
 
 # ---- models
@@ -13,7 +13,7 @@ def fault_of_model(trial, text, whole=None, before=0):
     """What is wrong with a model's text, which may stand in a whole input behind so many bytes."""
     number, place = answer(trial.model("model", data=text))
     if number == 1:
-        return Fault(1, 0, "too long: " + TOO_LONG["model"])
+        return too_long("model", whole, before)
     sentence = lambda told: says_not_of_the_form(trial, "model", text, place, told)
     if number == 3:
         sentence = f"the fence name '{text[place:].split()[0].decode()}' stands above already"
@@ -83,7 +83,7 @@ def fault_of_stream(told, stream, upstream_fences, six, whole=None, before=0):
     """What is wrong with a stream, of which the model tells number and place."""
     number, place = answer(told)
     if number == 1:
-        return Fault(1, 0, "too long: " + TOO_LONG["stream"])
+        return too_long("stream", whole, before)
     byte = stream[place:place + 1]
     shown = escaped(byte[0]).decode()
     last = f"its last is {upstream_fences - 1}" if upstream_fences else "it has none"
@@ -131,7 +131,7 @@ def line_feeds(trial):
     refused(trial, [*begun, b"ss\n"], "the stream", Fault(4, 2, sentence, b"ss\n", 2))
     refused(trial, begun, "standard input", Fault(4, 2, sentence, b"ss\n\n", 2), b"ss\n\n")
     refused(trial, begun, "standard input", Fault(4, 2, sentence, b"ss\nll\n", 2), b"ss\nll\n")
-    refused(trial, begun, "standard input", Fault(1, 0, "too long: " + TOO_LONG["stream"]), b"l" * 4096 + b"\n\n")
+    refused(trial, begun, "standard input", too_long("stream"), b"l" * 4096 + b"\n\n")
 
 
 def without_fences(trial):
@@ -179,14 +179,14 @@ def too_large(trial):
 # ---- inputs of another shape
 
 def shapes(trial):
-    """The papers leave the words open, but for what they must speak of; the line and the column are where the shape ends."""
-    for label, (data, at, words) in broken.shapes(trial.model("builtin", "1"), trial.model("builtin", "15")).items():
-        fault = Fault(*answer(trial.model("list", data=data)), lambda told: all(word in told for word in words), data, at)
+    """The line and the column are where the shape ends."""
+    for label, (data, at, sentence) in broken.shapes(trial.model("builtin", "1"), trial.model("builtin", "15")).items():
+        fault = Fault(*answer(trial.model("list", data=data)), sentence, data, at)
         by_file_or_pipe(trial, ["list", ""], 1, f"shape-{label}", data, fault)
         by_file_or_pipe(trial, ["generate", ""], 1, f"shape-{label}", data, fault)
     data = trial.model("builtin", "1") * 2 + b"way full\nrun " + b"l" * 32768
     for subcommand in ("list", "generate"):
-        by_file_or_pipe(trial, [subcommand, ""], 1, "input-too-long", data, Fault(1, 0, "too long: " + TOO_LONG["input"]))
+        by_file_or_pipe(trial, [subcommand, ""], 1, "input-too-long", data, too_long("input"))
 
 
 # ---- images
@@ -194,9 +194,9 @@ def shapes(trial):
 def fault_of_image(trial, image):
     number, place = answer(trial.model("image-read", data=image))
     if number == 1:
-        return Fault(1, 0, "too long: " + TOO_LONG["image"])
+        return too_long("image")
     if number == 11:
-        return Fault(11, place, lambda told: broken.names_barred_byte(image, place, told))
+        return Fault(11, place, broken.barred(image, place))
     block = image[512 * place:512 * place + 512]
     own = int.from_bytes(block[:2], "big")
     # Where both the number and the check are wrong, the number is told: it comes first in document 01 and in the block.
@@ -226,7 +226,7 @@ def images(trial):
 def fault_of_drawing(trial, drawing):
     number, place = answer(trial.model("undraw", data=drawing))
     if number == 1:
-        return Fault(1, 0, "too long: " + TOO_LONG["drawing"])
+        return too_long("drawing")
     return Fault(2, place, lambda told: says_not_of_the_form(trial, "drawing", drawing, place, told), drawing, place)
 
 

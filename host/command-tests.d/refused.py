@@ -16,12 +16,13 @@ TOO_LONG = {
 
 @dataclass
 class Fault:
-    """A refusal as it must be told: the text and the place in it only where a line is to be shown."""
+    """A refusal as it must be told: the text and the place in it only where a line and a column are told."""
     number: int
     place: int
     sentence: Any  # its words, or a test of them
     text: Any = None
     at: int = 0
+    shown: bool = True  # the line, below
 
 
 def answer(told):
@@ -45,8 +46,13 @@ def is_told(trial, ran, name, fault):
     sentence = line[len(head):len(line) - len(tail)]
     right = fault.sentence(sentence) if callable(fault.sentence) else sentence == fault.sentence
     trial.check(ran, right, f"the sentence is: {sentence}", "" if callable(fault.sentence) else f"and must be: {fault.sentence}")
-    shows = rest == b"" if fault.text is None else shows_place(rest, fault.text, fault.at)
+    shows = shows_place(rest, fault.text, fault.at) if fault.text is not None and fault.shown else rest == b""
     trial.check(ran, shows, "the line or the caret is not right")
+
+
+def too_long(what, whole=None, before=0):
+    """Of a part of a whole input it is told where the part begins."""
+    return Fault(1, 0, "too long: " + TOO_LONG[what], whole, before, shown=False)
 
 
 def standing(trial, name):

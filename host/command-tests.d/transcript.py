@@ -10,15 +10,20 @@ from trial import Ran
 
 REPEATS = b"model A\nppo ---- ---- ---- ----\nfence mfence SSSS SSSS SSSS SSSS\nfence mfence ---- ---- ---- ----\nend\n"
 
+# Bytes that may not stand in the image of TSO on ARM, by their places.
+BARRED = {2: 2, 3: 2, 4: 22, 5: 17, 6: 17, 11: 0x41, 23: 0, 39: 1, 506: 1, 514: 1, 515: 3, 522: 3, 531: 0x63, 586: 0xFF}
+
 
 def files(trial):
     """What the transcript's lines read."""
     image = image_of(trial, "full", 1, 15)
     made = {
         "repeats.model": REPEATS, "bare.model": BARE, "weak.model": WEAK, "weakest.model": WEAKEST, "tso-on-arm.image": image,
-        "empty.image": b"", "cut.image": image[:-1], "number.image": changed(image, 513, 7), "barred.image": changed(image, 531, 0x63),
+        "empty.image": b"", "cut.image": image[:-1], "number.image": changed(image, 513, 7),
         "damaged.image": image[:600] + bytes([image[600] ^ 1]) + image[601:],
     }
+    for place, byte in BARRED.items():
+        made[f"{place}.image"] = changed(image, place, byte)
     for name in ("a4097", "part", "st256-up", "st-target"):
         made[name + ".model"] = trial.stored("model", "models", name + ".model")
     for name, data in made.items():

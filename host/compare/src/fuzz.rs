@@ -243,9 +243,14 @@ fn write(folder: &str, call: &str, seeds: Vec<Seed>) -> Result<()> {
     let folder = Path::new(folder).join(call);
     fs::create_dir_all(&folder)?;
     fs::create_dir_all(&files)?;
+    // Seeds that differ in their numbers alone are the same files.
+    let mut written: Vec<&[Vec<u8>]> = vec![];
     for (number, seed) in seeds.iter().enumerate() {
         fs::write(folder.join(format!("{number:02}")), &seed.bytes)?;
-        write_regions(&files, number, &seed.regions)?;
+        if !written.contains(&seed.regions.as_slice()) {
+            write_regions(&files, written.len(), &seed.regions)?;
+            written.push(&seed.regions);
+        }
     }
     Ok(())
 }

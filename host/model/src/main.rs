@@ -292,7 +292,7 @@ fn follow(text_bytes: &[u8], fault: fn(&[u8]) -> Option<usize>) -> Vec<u8> {
     let place = fault(text_bytes).unwrap_or(text_bytes.len());
     let goes_on = |byte: &u8| {
         let tried = [&text_bytes[..place], &[*byte]].concat();
-        fault(&tried).is_none_or(|further| further > place)
+        fault(&tried).unwrap_or(tried.len()) > place
     };
     let bytes = (0..=255).filter(goes_on);
     let shown: String = bytes.map(|byte| format!(" {byte:02x}")).collect();
