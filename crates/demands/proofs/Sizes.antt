@@ -36,7 +36,7 @@ use Rattle.shims.proofs.Theorems.{read-written}
 use Rattle.runs.specs.Bytes.{direct}
 use Rattle.runs.specs.Call.{runGiven, outcome}
 use Rattle.runs.proofs.Longest.{longest-output}
-use Rattle.layout.specs.Layout.{limit}
+use Rattle.places.specs.Layout.{limit}
 use Rattle.layout.specs.Barred.{statesOf, stages, lowestWrong, lowestBarred, verdictOf}
 use Rattle.image.specs.Calls.{writtenBack, Rewrites}
 use Rattle.image_runs.specs.Run.{Walked, ended, stopped, walked, outcomeOf, streamLimit, runAs, runOver}

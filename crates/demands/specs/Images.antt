@@ -21,7 +21,7 @@ use Rattle.mealy.specs.Runs.{Answer, refused, taken, reached, Same}
 use Rattle.mealy.specs.Arrivals.{Described}
 use Rattle.machine.specs.Shim.{shim}
 use Rattle.machine.specs.Spoken.{machineOf}
-use Rattle.layout.specs.Layout.{blocksFor, position}
+use Rattle.places.specs.Layout.{blocksFor, position}
 use Rattle.layout.specs.Barred.{statesOf, upstreamFencesOf, targetFencesOf, verdictOf}
 use Rattle.image.specs.Image.{headerOf}
 use Rattle.image_runs.specs.declared.Stop.{Stop}

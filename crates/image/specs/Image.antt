@@ -14,11 +14,11 @@ use Rattle.answers.specs.Buffer.{bufferWith}
 use Rattle.answers.specs.declared.Refusal.{Refusal}
 use Rattle.answers.specs.declared.Verdict.{Verdict}
 use Rattle.operations.specs.Alphabet.{accessLetters, stride}
-use Rattle.layout.specs.declared.places.Place.{Place}
+use Rattle.places.specs.declared.Place.{Place}
 use Rattle.image.specs.declared.machine.Header.{Header}
 use Rattle.image.specs.declared.machine.Reading.{Reading}
-use Rattle.layout.specs.Checksum.{twoBytes, checksum}
-use Rattle.layout.specs.Layout.{accesses, blocksFor, standsAt, position}
+use Rattle.blocks.specs.Checksum.{twoBytes, checksum}
+use Rattle.places.specs.Layout.{accesses, blocksFor, standsAt, position}
 use Rattle.layout.specs.Barred.{statesOf, upstreamFencesOf, targetFencesOf, verdictOf}
 
 -- the first n values of f

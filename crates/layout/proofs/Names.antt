@@ -1,14 +1,16 @@
 -- Barred bytes of a name, where a walk downwards looks for its end; the numbers that next states stay below; fence bytes. Each by the tests that
--- its definition chooses by. Assumes nothing.
+-- its definition chooses by; and any byte by its place. Assumes nothing.
 use Prim.Native.Nat.{ℕ, zero, suc, _+_, _-_, _<_, _≤_}
-use mathlib.Core.Path.{_≡_, sym, ap, _∙_}
+use mathlib.Core.Path.{_≡_, sym, ap, ap₂, _∙_}
 use mathlib.Core.Bool.{Bool, true, false}
 use mathlib.Core.List.{List}
 use native.Mathlib.Omega.{arith}
 use borrow.Author.Tests.{lt-ltb, le-ltb, le-leb, lt-leb, eq-eqb, ne-eqb}
 use lib.Dec.{leb, ltb, eqb}
 use Rattle.ground.specs.Bytes.{at, nameByte}
-use Rattle.layout.specs.Barred.{ended, statesOf, targetFencesOf, barredName, barredFence, nextBelow}
+use Rattle.places.specs.declared.Place.{Place}
+use Rattle.places.specs.Layout.{standsAt}
+use Rattle.layout.specs.Barred.{ended, statesOf, targetFencesOf, barredName, barredFence, nextBelow, barredAs, barred}
 
 -- a walk downwards: whether a zero stands among the first k bytes of a name is whether it does among the first j
 module _ (image : List ℕ) (from k : ℕ) where
@@ -76,3 +78,9 @@ module _ (image : List ℕ) (state value n : ℕ) (states : n ≡ statesOf image
     pub fence-number : state < n → value < m → false ≡ barredFence image state value
     unfolding barredFence
     fence-number h l = rw (← states, ← targets, lt-ltb _ _ h, lt-leb _ _ l)
+
+-- a byte is barred as its place has it
+pub barred-as : (image : List ℕ) (i v : ℕ) (place other : Place) (r : Bool) → v ≡ at image i → place ≡ standsAt 1 i → place ≡ other
+    → r ≡ barredAs image i v other → r ≡ barred image i
+unfolding barred
+barred-as image i v place other r value e h b = b ∙ ap₂ (barredAs image i) value (sym h ∙ e)

@@ -14,24 +14,9 @@ use Rattle.ground.specs.declared.Found.{Found}
 use Rattle.ground.specs.Bytes.{at, nameByte}
 use Rattle.answers.specs.declared.Refusal.{Refusal}
 use Rattle.answers.specs.declared.Verdict.{Verdict}
-use Rattle.layout.specs.declared.places.Place.{Place}
-use Rattle.layout.specs.Checksum.{twoBytes, checksum}
-use Rattle.layout.specs.Layout.{blocksFor, limit, standsAt}
-
--- the check that block b must have; and 0 for one that is not all there
-unfoldable pub checkOf : List ℕ → ℕ → ℕ
-checkOf image b = checksum 255 (λ (p : ℕ). at image (512 * b + p))
-
-unfoldable pub checkIn : List ℕ → ℕ → ℕ
-checkIn image b = cond (ltb b (length image / 512)) (checkOf image b) 0
-
--- block b is broken off, or has a wrong number or a wrong check
-unfoldable pub wrong : List ℕ → ℕ → Bool
-wrong image b =
-    cond (ltb (length image) (512 * b + 512)) true
-    (cond (eqb (twoBytes (at image (512 * b)) (at image (512 * b + 1))) b)
-    (not (eqb (twoBytes (at image (512 * b + 510)) (at image (512 * b + 510 + 1))) (checkOf image b)))
-    true)
+use Rattle.blocks.specs.Wrong.{wrong}
+use Rattle.places.specs.declared.Place.{Place}
+use Rattle.places.specs.Layout.{blocksFor, limit, standsAt}
 
 -- how many blocks there are by position, a broken last one counted; an empty image has a broken block 0
 abbrev pub blockCount : List ℕ → ℕ

@@ -1,21 +1,18 @@
 // What is wrong with an image, and where.
-ghost use Prim.Native.Nat.{_-_, _^_, _<_, _≤_};
+ghost use Prim.Native.Nat.{_-_, _<_, _≤_};
 ghost use mathlib.Core.Path.{_≡_};
 ghost use mathlib.Core.Bool.{not};
 ghost use lib.Dec.{leb, ltb, eqb};
 ghost use lib.ListN.{length};
-ghost use Rattle.ground.specs.Lowest.{lowest};
 ghost use Rattle.ground.specs.Bytes.{at};
-ghost use Rattle.layout.specs.Layout.{limit};
-ghost use Rattle.layout.specs.Barred.{wrong, wrongCount, blockCount, ended, upstreamFencesOf, targetFencesOf, nextBelow, barredName};
+ghost use Rattle.places.specs.Layout.{limit};
+ghost use Rattle.layout.specs.Barred.{wrongCount, blockCount, ended, upstreamFencesOf, targetFencesOf, nextBelow, barredName};
 ghost use Rattle.layout.specs.Barred.{barredFence, barred, lowestBarred, stages, verdictOf};
 ghost use Rattle.layout.specs.inner.Skipping.{Skips};
-use crate::checksum;
-use crate::places;
-use crate::places::Place;
 use answers::Refusal;
 use answers::Verdict;
 use ground::Found;
+use places::Place;
 
 // The limit of an image's length.
 pub const LIMIT: usize = 7168;
@@ -60,44 +57,15 @@ fn next_below(image: &[u8], state: usize, leads: bool) -> usize
     if leads { states } else { 1 }
 }
 
-fn is_wrong(image: &[u8], b: usize) -> bool
-    requires { ⌜ b < 2 ^ 50 ⌝ }
-    ensures { λ r. ⌜ r ≡ wrong (now (image .entry)) b ⌝ }
-{
-    let from = 512 * b;
-    if image.len() < from + 512 {
-        return true;
-    }
-    let number = checksum::two_bytes(image, from);
-    if number != b {
-        return true;
-    }
-    checksum::two_bytes(image, from + 510) != checksum::check(image, from)
-}
-
 // How many blocks there are by position; an empty image has a broken block 0.
 fn block_count(image: &[u8]) -> usize
     requires { ⌜ length (now image) ≤ limit ⌝ }
-    ensures { λ r. ⌜ (r ≡ blockCount (now (image .entry))) × (r < 2 ^ 50) ⌝ }
+    ensures { λ r. ⌜ r ≡ blockCount (now (image .entry)) ⌝ }
 {
     if image.len() == 0 {
         return 1;
     }
     (image.len() + 511) / 512
-}
-
-fn lowest_wrong(image: &[u8], count: usize) -> Found
-    requires { ⌜ count < 2 ^ 50 ⌝ }
-    ensures { λ r. ⌜ r ≡ lowest (wrong (now (image .entry))) 0 count ⌝ }
-{
-    let mut b = 0;
-    while b < count {
-        if is_wrong(image, b) {
-            return Found::At(b);
-        }
-        b += 1;
-    }
-    Found::Nowhere
 }
 
 // Whether a block count does not belong to so many states, or there are none.
@@ -223,7 +191,7 @@ pub fn examine(image: &[u8]) -> Verdict
     if LIMIT < image.len() {
         return Verdict::Refused(Refusal::OverLimit);
     }
-    let block = lowest_wrong(image, block_count(image));
+    let block = blocks::lowest_wrong(image, block_count(image));
     match block {
         Found::At(b) => Verdict::Refused(Refusal::BrokenBlock(b)),
         Found::Nowhere => examine_bytes(image),

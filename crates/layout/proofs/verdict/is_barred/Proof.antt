@@ -2,7 +2,8 @@
 use mathlib.Core.Path.{refl}
 use native.Mathlib.Omega.{arith}
 use borrow.Author.Needs.{needs}
-use Rattle.layout.proofs.Standing.{stands-at, barred-as}
+use Rattle.places.proofs.Standing.{stands-at}
+use Rattle.layout.proofs.Names.{barred-as}
 use Rattle.layout.proofs.verdict.is_barred.Statement.{statement}
 use Rattle.layout.proofs.verdict.is_barred.Tie as tie
 

@@ -1,6 +1,6 @@
 -- `is_wrong_count` meets its contract: no states, or another length than they want. Assumes nothing.
 use borrow.Author.Needs.{needs}
-use Rattle.layout.proofs.Tests.{tests}
+use Rattle.places.proofs.Tests.{tests}
 use Rattle.layout.specs.Barred.{wrongCount}
 use Rattle.layout.proofs.verdict.is_wrong_count.Statement.{statement}
 use Rattle.layout.proofs.verdict.is_wrong_count.Tie as tie
