@@ -40,7 +40,7 @@ use Rattle.machine.specs.Generated.{Unmade, named}
 use Rattle.making.specs.Made.{MachineMade}
 use Rattle.making.proofs.Read.{all-named}
 use Rattle.places.specs.Layout.{blocksFor, position}
-use Rattle.layout.specs.Barred.{statesOf}
+use Rattle.barred.specs.Barred.{statesOf}
 use Rattle.image.specs.declared.machine.Header.{Header}
 use Rattle.image.specs.Image.{word, headerOf, imageOf}
 use Rattle.image.proofs.Canonicals.{fence-image, next-image, onward-image}

@@ -23,7 +23,8 @@ use Rattle.operations.specs.Operation.{byteIs}
 use Rattle.operations.specs.Alphabet.{letterOf}
 use Rattle.places.specs.Layout.{limit, position}
 use Rattle.blocks.specs.Wrong.{wrong}
-use Rattle.layout.specs.Barred.{blockCount, barred, statesOf, upstreamFencesOf, lowestWrong, lowestBarred, stages, verdictOf}
+use Rattle.barred.specs.Barred.{barred, statesOf, upstreamFencesOf}
+use Rattle.layout.specs.Verdict.{blockCount, lowestWrong, lowestBarred, stages, verdictOf}
 use Rattle.image.specs.Calls.{writtenBack}
 use Rattle.image_runs.specs.declared.Stop.{Stop}
 use Rattle.image_runs.specs.declared.Move.{Move}

@@ -37,7 +37,8 @@ use Rattle.runs.specs.Bytes.{direct}
 use Rattle.runs.specs.Call.{runGiven, outcome}
 use Rattle.runs.proofs.Longest.{longest-output}
 use Rattle.places.specs.Layout.{limit}
-use Rattle.layout.specs.Barred.{statesOf, stages, lowestWrong, lowestBarred, verdictOf}
+use Rattle.barred.specs.Barred.{statesOf}
+use Rattle.layout.specs.Verdict.{stages, lowestWrong, lowestBarred, verdictOf}
 use Rattle.image.specs.Calls.{writtenBack, Rewrites}
 use Rattle.image_runs.specs.Run.{Walked, ended, stopped, walked, outcomeOf, streamLimit, runAs, runOver}
 use Rattle.image_runs.specs.declared.Stop.{Stop}

@@ -24,7 +24,7 @@ use Rattle.mealy.specs.Runs.{Machine, ends, go}
 use Rattle.mealy.specs.Arrivals.{numbered}
 use Rattle.machine.specs.Spoken.{puts, spelt, spelling, say, spoken}
 use Rattle.places.specs.Layout.{position}
-use Rattle.layout.specs.Barred.{upstreamFencesOf}
+use Rattle.barred.specs.Barred.{upstreamFencesOf}
 use Rattle.image_runs.specs.declared.Stop.{Stop}
 use Rattle.image_runs.specs.declared.Move.{Move}
 use Rattle.image_runs.specs.declared.Step.{Step}

@@ -16,7 +16,8 @@ use Rattle.operations.specs.Operation.{byteIs}
 use Rattle.operations.specs.Alphabet.{letterOf}
 use Rattle.places.specs.Layout.{position}
 use Rattle.blocks.specs.Wrong.{wrong}
-use Rattle.layout.specs.Barred.{blockCount, barred, statesOf, upstreamFencesOf, verdictOf}
+use Rattle.barred.specs.Barred.{barred, statesOf, upstreamFencesOf}
+use Rattle.layout.specs.Verdict.{blockCount, verdictOf}
 use Rattle.image_runs.specs.Run.{ended, walked}
 
 -- what is wrong with an image

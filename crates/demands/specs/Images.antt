@@ -22,7 +22,8 @@ use Rattle.mealy.specs.Arrivals.{Described}
 use Rattle.machine.specs.Shim.{shim}
 use Rattle.machine.specs.Spoken.{machineOf}
 use Rattle.places.specs.Layout.{blocksFor, position}
-use Rattle.layout.specs.Barred.{statesOf, upstreamFencesOf, targetFencesOf, verdictOf}
+use Rattle.barred.specs.Barred.{statesOf, upstreamFencesOf, targetFencesOf}
+use Rattle.layout.specs.Verdict.{verdictOf}
 use Rattle.image.specs.Image.{headerOf}
 use Rattle.image_runs.specs.declared.Stop.{Stop}
 use Rattle.image_runs.specs.Run.{refusalOf, runOver}

@@ -15,7 +15,7 @@ use Rattle.places.specs.declared.Place.{Place}
 use Rattle.blocks.specs.Checksum.{twoBytes}
 use Rattle.places.specs.Layout.{standsAt, position}
 use Rattle.blocks.specs.Wrong.{checkOf}
-use Rattle.layout.specs.Barred.{barredFence, nextBelow, statesOf, upstreamFencesOf, targetFencesOf, barredAs}
+use Rattle.barred.specs.Barred.{barredFence, nextBelow, statesOf, upstreamFencesOf, targetFencesOf, barredAs}
 use Rattle.layout.specs.inner.Faultless.{Faultless}
 use Rattle.places.specs.inner.Standing.{Stands}
 use Rattle.layout.proofs.Faultless.{first-block, unbarred, rule-at, some-states, length-is, few-upstream, few-targets, block-of}

@@ -17,8 +17,10 @@ use Rattle.image.specs.declared.machine.Header.{Header}
 use Rattle.blocks.specs.Checksum.{twoBytes}
 use Rattle.places.specs.Layout.{limit, blocksFor, standsAt, position}
 use Rattle.blocks.specs.Wrong.{wrong, checkOf}
-use Rattle.layout.specs.Barred.{blockCount, wrongCount, barredFence, nextBelow, statesOf, upstreamFencesOf, targetFencesOf}
-use Rattle.layout.specs.Barred.{barredAs, barred, verdictOf}
+use Rattle.barred.specs.Barred.{wrongCount, barredFence, nextBelow, statesOf, upstreamFencesOf, targetFencesOf}
+use Rattle.layout.specs.Verdict.{blockCount}
+use Rattle.barred.specs.Barred.{barredAs, barred}
+use Rattle.layout.specs.Verdict.{verdictOf}
 use Rattle.image.specs.Image.{listed, word, half, used, valueAs, valueAt, checkFor, byteAt, sizeOf, imageOf, headerOf, entryWord, rowsOf}
 use Rattle.image.specs.Image.{AccessWord, Canonical}
 use Rattle.ground.proofs.Lowest.{none-nowhere}

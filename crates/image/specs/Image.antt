@@ -19,7 +19,8 @@ use Rattle.image.specs.declared.machine.Header.{Header}
 use Rattle.image.specs.declared.machine.Reading.{Reading}
 use Rattle.blocks.specs.Checksum.{twoBytes, checksum}
 use Rattle.places.specs.Layout.{accesses, blocksFor, standsAt, position}
-use Rattle.layout.specs.Barred.{statesOf, upstreamFencesOf, targetFencesOf, verdictOf}
+use Rattle.barred.specs.Barred.{statesOf, upstreamFencesOf, targetFencesOf}
+use Rattle.layout.specs.Verdict.{verdictOf}
 
 -- the first n values of f
 unfoldable pub listed : ℕ → (ℕ → ℕ) → List ℕ

@@ -19,8 +19,10 @@ use Rattle.places.specs.declared.Place.{Place}
 use Rattle.blocks.specs.Checksum.{twoBytes}
 use Rattle.places.specs.Layout.{limit, blocksFor, standsAt, position}
 use Rattle.blocks.specs.Wrong.{wrong}
-use Rattle.layout.specs.Barred.{blockCount, wrongCount, barredFence, nextBelow, statesOf, upstreamFencesOf, targetFencesOf}
-use Rattle.layout.specs.Barred.{barredAs, barred, lowestWrong, lowestBarred, stages, verdictOf}
+use Rattle.barred.specs.Barred.{wrongCount, barredFence, nextBelow, statesOf, upstreamFencesOf, targetFencesOf}
+use Rattle.layout.specs.Verdict.{blockCount}
+use Rattle.barred.specs.Barred.{barredAs, barred}
+use Rattle.layout.specs.Verdict.{lowestWrong, lowestBarred, stages, verdictOf}
 use Rattle.layout.specs.inner.Faultless.{Faultless, Block}
 use Rattle.ground.proofs.Lowest.{lowest-nowhere}
 use Rattle.layout.proofs.Failing.{neither, chosen, equal}

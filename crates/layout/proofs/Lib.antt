@@ -1,4 +1,3 @@
-pub mod Names
 pub mod Verdicts
 pub mod Zeros
 pub mod Failing

@@ -10,7 +10,7 @@ use Rattle.answers.specs.declared.Refusal.{Refusal}
 use Rattle.answers.specs.declared.Verdict.{Verdict}
 use Rattle.places.specs.Layout.{limit}
 use Rattle.blocks.specs.Wrong.{wrong}
-use Rattle.layout.specs.Barred.{blockCount, lowestBarred, stages, verdictOf}
+use Rattle.layout.specs.Verdict.{blockCount, lowestBarred, stages, verdictOf}
 
 module _ (image : List ℕ) where
   pub over-limit : limit < length image → Verdict.Refused Refusal.OverLimit ≡ verdictOf image

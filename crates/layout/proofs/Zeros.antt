@@ -11,7 +11,8 @@ use Rattle.ground.proofs.Lowest.{lowest-on, lowest-step}
 use Rattle.ground.specs.Bytes.{at}
 use Rattle.places.specs.declared.Place.{Place}
 use Rattle.places.specs.Layout.{standsAt}
-use Rattle.layout.specs.Barred.{statesOf, targetFencesOf, nextBelow, barredFence, barredAs, barred, lowestBarred}
+use Rattle.barred.specs.Barred.{statesOf, targetFencesOf, nextBelow, barredFence, barredAs, barred}
+use Rattle.layout.specs.Verdict.{lowestBarred}
 use Rattle.layout.specs.inner.Skipping.{barredFrom, Skips}
 use Rattle.places.specs.inner.Standing.{Stands}
 use Rattle.places.proofs.Standing.{stands, by-test}

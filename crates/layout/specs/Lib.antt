@@ -1,2 +1,2 @@
-pub mod Barred
+pub mod Verdict
 pub mod inner

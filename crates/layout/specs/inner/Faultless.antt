@@ -8,7 +8,8 @@ use Rattle.ground.specs.Bytes.{at}
 use Rattle.blocks.specs.Checksum.{twoBytes}
 use Rattle.places.specs.Layout.{limit}
 use Rattle.blocks.specs.Wrong.{wrong, checkOf}
-use Rattle.layout.specs.Barred.{blockCount, barred}
+use Rattle.barred.specs.Barred.{barred}
+use Rattle.layout.specs.Verdict.{blockCount}
 
 pub record Faultless (image : List ℕ) : Type 0 where
   pub fits : length image ≤ limit

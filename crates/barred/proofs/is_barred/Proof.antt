@@ -3,9 +3,9 @@ use mathlib.Core.Path.{refl}
 use native.Mathlib.Omega.{arith}
 use borrow.Author.Needs.{needs}
 use Rattle.places.proofs.Standing.{stands-at}
-use Rattle.layout.proofs.Names.{barred-as}
-use Rattle.layout.proofs.verdict.is_barred.Statement.{statement}
-use Rattle.layout.proofs.verdict.is_barred.Tie as tie
+use Rattle.barred.proofs.Names.{barred-as}
+use Rattle.barred.proofs.is_barred.Statement.{statement}
+use Rattle.barred.proofs.is_barred.Tie as tie
 
 number-at-requires : tie.Need-number-at-requires
 number-at-requires c κs = search needs

@@ -1,7 +1,7 @@
 -- `is_barred_fence_next` meets its contract by those of what it calls. Assumes nothing.
 use borrow.Author.Needs.{needs}
-use Rattle.layout.proofs.verdict.is_barred_fence_next.Statement.{statement}
-use Rattle.layout.proofs.verdict.is_barred_fence_next.Tie as tie
+use Rattle.barred.proofs.is_barred_fence_next.Statement.{statement}
+use Rattle.barred.proofs.is_barred_fence_next.Tie as tie
 
 number-at-requires : tie.Need-number-at-requires
 number-at-requires c κs = search needs

@@ -1,8 +1,8 @@
 -- `is_barred_name` meets its contract: its tests are the definition's, of the name's byte. Assumes nothing.
 use borrow.Author.Needs.{needs}
-use Rattle.layout.proofs.Names.{name-zero, name-good, name-bad}
-use Rattle.layout.proofs.verdict.is_barred_name.Statement.{statement}
-use Rattle.layout.proofs.verdict.is_barred_name.Tie as tie
+use Rattle.barred.proofs.Names.{name-zero, name-good, name-bad}
+use Rattle.barred.proofs.is_barred_name.Statement.{statement}
+use Rattle.barred.proofs.is_barred_name.Tie as tie
 
 add-byte-at : tie.Need-add-byte-at
 add-byte-at c = search needs

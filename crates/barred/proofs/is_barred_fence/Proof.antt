@@ -1,8 +1,8 @@
 -- `is_barred_fence` meets its contract: its tests are the definition's, of the states and target fences that the image holds. Assumes nothing.
 use borrow.Author.Needs.{needs}
-use Rattle.layout.proofs.Names.{fence-unused, fence-high, fence-number}
-use Rattle.layout.proofs.verdict.is_barred_fence.Statement.{statement}
-use Rattle.layout.proofs.verdict.is_barred_fence.Tie as tie
+use Rattle.barred.proofs.Names.{fence-unused, fence-high, fence-number}
+use Rattle.barred.proofs.is_barred_fence.Statement.{statement}
+use Rattle.barred.proofs.is_barred_fence.Tie as tie
 
 number-at-requires : tie.Need-number-at-requires
 number-at-requires c κs = search needs

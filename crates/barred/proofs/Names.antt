@@ -10,7 +10,7 @@ use lib.Dec.{leb, ltb, eqb}
 use Rattle.ground.specs.Bytes.{at, nameByte}
 use Rattle.places.specs.declared.Place.{Place}
 use Rattle.places.specs.Layout.{standsAt}
-use Rattle.layout.specs.Barred.{ended, statesOf, targetFencesOf, barredName, barredFence, nextBelow, barredAs, barred}
+use Rattle.barred.specs.Barred.{ended, statesOf, targetFencesOf, barredName, barredFence, nextBelow, barredAs, barred}
 
 -- a walk downwards: whether a zero stands among the first k bytes of a name is whether it does among the first j
 module _ (image : List ℕ) (from k : ℕ) where

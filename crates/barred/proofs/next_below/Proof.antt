@@ -1,9 +1,9 @@
 -- `next_below` meets its contract: its tests are the definition's, of the states that the image holds. Assumes nothing.
 use native.Mathlib.Omega.{arith}
 use borrow.Author.Needs.{needs}
-use Rattle.layout.proofs.Names.{next-unused, next-leads, next-zero}
-use Rattle.layout.proofs.verdict.next_below.Statement.{statement}
-use Rattle.layout.proofs.verdict.next_below.Tie as tie
+use Rattle.barred.proofs.Names.{next-unused, next-leads, next-zero}
+use Rattle.barred.proofs.next_below.Statement.{statement}
+use Rattle.barred.proofs.next_below.Tie as tie
 
 number-at-requires : tie.Need-number-at-requires
 number-at-requires c κs = search needs

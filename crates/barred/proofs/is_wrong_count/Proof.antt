@@ -1,9 +1,9 @@
 -- `is_wrong_count` meets its contract: no states, or another length than they want. Assumes nothing.
 use borrow.Author.Needs.{needs}
 use Rattle.places.proofs.Tests.{tests}
-use Rattle.layout.specs.Barred.{wrongCount}
-use Rattle.layout.proofs.verdict.is_wrong_count.Statement.{statement}
-use Rattle.layout.proofs.verdict.is_wrong_count.Tie as tie
+use Rattle.barred.specs.Barred.{wrongCount}
+use Rattle.barred.proofs.is_wrong_count.Statement.{statement}
+use Rattle.barred.proofs.is_wrong_count.Tie as tie
 
 returns : tie.Need-returns
 unfolding wrongCount

@@ -3,10 +3,10 @@ use Prim.Native.Nat.{_≤_}
 use mathlib.Core.Path.{_≡_, refl}
 use native.Mathlib.Omega.{arith}
 use borrow.Author.Needs.{needs}
-use Rattle.layout.proofs.Names.{ended-here, ended-on, ended-none}
-use Rattle.layout.specs.Barred.{ended}
-use Rattle.layout.proofs.verdict.has_ended.Statement.{statement}
-use Rattle.layout.proofs.verdict.has_ended.Tie as tie
+use Rattle.barred.proofs.Names.{ended-here, ended-on, ended-none}
+use Rattle.barred.specs.Barred.{ended}
+use Rattle.barred.proofs.has_ended.Statement.{statement}
+use Rattle.barred.proofs.has_ended.Tie as tie
 
 abbrev Inv-loop : tie.InvT-loop
 Inv-loop image from k j₀ j = (j ≤ k) × (ended image from k ≡ ended image from j)

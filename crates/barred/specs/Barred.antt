@@ -1,26 +1,14 @@
--- Document 01: refusals 1, "a text, stream or image is over its limit"; 10, "an image is empty, has a broken last block, or a wrong number or
--- check", at the "lowest such block, counted from 0 by position; 0 if empty"; 11, "an image holds a value the layout bars; a wrong block count
--- is charged to byte 4", at the "lowest such byte"; in this order.
--- "In a name field the barred bytes are a first byte of zero, a nonzero byte that no name may hold, and any byte other than zero after a zero.
--- The stored check must equal the computed one exactly."
+-- Document 01: refusal 11, "an image holds a value the layout bars; a wrong block count is charged to byte 4", at the "lowest such byte".
+-- "In a name field the barred bytes are a first byte of zero, a nonzero byte that no name may hold, and any byte other than zero after a zero."
 -- Each byte has its own rule; it may trust bytes 2 to 6, since where one of those is barred it is the lower.
-use Prim.Native.Nat.{ℕ, zero, suc, _+_, _-_, _*_, _/_, max}
+use Prim.Native.Nat.{ℕ, zero, suc, _+_, _-_, _*_}
 use mathlib.Core.Bool.{Bool, true, false, not, cond}
 use mathlib.Core.List.{List}
 use lib.Dec.{leb, ltb, eqb}
 use lib.ListN.{length}
-use Rattle.ground.specs.Lowest.{lowest}
-use Rattle.ground.specs.declared.Found.{Found}
 use Rattle.ground.specs.Bytes.{at, nameByte}
-use Rattle.answers.specs.declared.Refusal.{Refusal}
-use Rattle.answers.specs.declared.Verdict.{Verdict}
-use Rattle.blocks.specs.Wrong.{wrong}
 use Rattle.places.specs.declared.Place.{Place}
-use Rattle.places.specs.Layout.{blocksFor, limit, standsAt}
-
--- how many blocks there are by position, a broken last one counted; an empty image has a broken block 0
-abbrev pub blockCount : List ℕ → ℕ
-blockCount image = max 1 ((length image + 511) / 512)
+use Rattle.places.specs.Layout.{blocksFor, standsAt}
 
 -- a zero stands among the first k bytes of the name at a place
 unfoldable pub ended : List ℕ → ℕ → ℕ → Bool
@@ -72,20 +60,3 @@ barredAs image i v (Place.FenceNext state f) = leb (nextBelow image state (ltb f
 
 unfoldable pub barred : List ℕ → ℕ → Bool
 barred image i = barredAs image i (at image i) (standsAt 1 i)
-
--- the lowest wrong block and the lowest barred byte
-abbrev pub lowestWrong : List ℕ → Found
-lowestWrong image = lowest (wrong image) 0 (blockCount image)
-
-abbrev pub lowestBarred : List ℕ → Found
-lowestBarred image = lowest (barred image) 0 (length image)
-
--- the verdict by these two
-abbrev pub stages : Found → Found → Verdict
-stages (Found.At b) byte = Verdict.Refused (Refusal.BrokenBlock b)
-stages Found.Nowhere (Found.At i) = Verdict.Refused (Refusal.BarredValue i)
-stages Found.Nowhere Found.Nowhere = Verdict.Accepted
-
-unfoldable pub verdictOf : List ℕ → Verdict
-verdictOf image =
-    cond (ltb limit (length image)) (Verdict.Refused Refusal.OverLimit) (stages (lowestWrong image) (lowestBarred image))

@@ -1,7 +1,7 @@
 -- `is_barred_next` meets its contract by those of what it calls. Assumes nothing.
 use borrow.Author.Needs.{needs}
-use Rattle.layout.proofs.verdict.is_barred_next.Statement.{statement}
-use Rattle.layout.proofs.verdict.is_barred_next.Tie as tie
+use Rattle.barred.proofs.is_barred_next.Statement.{statement}
+use Rattle.barred.proofs.is_barred_next.Tie as tie
 
 sub-number-at : tie.Need-sub-number-at
 sub-number-at c = search needs
