@@ -17,7 +17,7 @@ use Rattle.shims.specs.declared.Models.{Models}
 use Rattle.runs.specs.Call.{outcome}
 use Rattle.demands.specs.DirectRuns.{over-limit, no-operation, no-such-fence, no-fence-will-do, RunRefused, opening, at-stream, too-small}
 use Rattle.answers.specs.declared.Verdict.{Verdict}
-use Rattle.layout.specs.Barred.{verdictOf}
+use Rattle.layout.specs.Verdict.{verdictOf}
 use Rattle.image.specs.Calls.{writtenBack, Rewrites}
 use Rattle.image_runs.specs.Run.{runOver}
 use Rattle.drawing.specs.Calls.{drawn}

@@ -26,7 +26,7 @@ use Rattle.machine.specs.Shim.{lettersOf}
 use Rattle.machine.specs.Spoken.{Letters, operations, machineOf, spoken, AnswersLikeTheRule}
 use Rattle.machine.specs.Counted.{SameState, OnStates, FirstArrival}
 use Rattle.machine.proofs.Theorems as machine
-use Rattle.layout.specs.Barred.{verdictOf}
+use Rattle.layout.specs.Verdict.{verdictOf}
 use Rattle.image.specs.Calls.{writtenBack, headerAs, Rewrites}
 use Rattle.image_runs.specs.Run.{runOver}
 use Rattle.texts.specs.NamePart.{NameFormed}

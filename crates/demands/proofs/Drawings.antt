@@ -12,7 +12,7 @@ use Rattle.answers.specs.declared.Answer.{Answer}
 use Rattle.answers.specs.declared.Verdict.{Verdict}
 use Rattle.answers.specs.Given.{Given, gives, refuses, unlessRefused, Delivers, Answers}
 use Rattle.operations.specs.Alphabet.{stride}
-use Rattle.layout.specs.Barred.{verdictOf}
+use Rattle.layout.specs.Verdict.{verdictOf}
 use Rattle.layout.proofs.Faultless.{accepted-faultless}
 use Rattle.image.specs.declared.machine.Header.{Header}
 use Rattle.image.specs.Image.{listed, imageOf, headerOf, rowsOf, Canonical}

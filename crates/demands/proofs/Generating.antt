@@ -39,8 +39,8 @@ use Rattle.machine.specs.Generated as unmade
 use Rattle.machine.specs.Generated.{Unmade, named}
 use Rattle.making.specs.Made.{MachineMade}
 use Rattle.making.proofs.Read.{all-named}
-use Rattle.layout.specs.Layout.{blocksFor, position}
-use Rattle.layout.specs.Barred.{statesOf}
+use Rattle.places.specs.Layout.{blocksFor, position}
+use Rattle.barred.specs.Barred.{statesOf}
 use Rattle.image.specs.declared.machine.Header.{Header}
 use Rattle.image.specs.Image.{word, headerOf, imageOf}
 use Rattle.image.proofs.Canonicals.{fence-image, next-image, onward-image}

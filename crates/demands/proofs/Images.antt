@@ -21,8 +21,10 @@ use Rattle.operations.specs.declared.Operation.{Operation}
 use Rattle.operations.specs.declared.Byte.{Byte}
 use Rattle.operations.specs.Operation.{byteIs}
 use Rattle.operations.specs.Alphabet.{letterOf}
-use Rattle.layout.specs.Layout.{limit, position}
-use Rattle.layout.specs.Barred.{wrong, blockCount, barred, statesOf, upstreamFencesOf, lowestWrong, lowestBarred, stages, verdictOf}
+use Rattle.places.specs.Layout.{limit, position}
+use Rattle.blocks.specs.Wrong.{wrong}
+use Rattle.barred.specs.Barred.{barred, statesOf, upstreamFencesOf}
+use Rattle.layout.specs.Verdict.{blockCount, lowestWrong, lowestBarred, stages, verdictOf}
 use Rattle.image.specs.Calls.{writtenBack}
 use Rattle.image_runs.specs.declared.Stop.{Stop}
 use Rattle.image_runs.specs.declared.Move.{Move}

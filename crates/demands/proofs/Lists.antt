@@ -29,10 +29,10 @@ use Rattle.mealy.proofs.Unique.{equal, same-states, not-more, described-unique}
 use Rattle.machine.specs.Counted.{ManySituations, ManyStates}
 use Rattle.machine.proofs.Counting.{many-situations, many-states}
 use Rattle.machine.proofs.Determined.{too-few}
-use Rattle.listing.specs.Shape.{Parts, shape}
+use Rattle.listed.specs.Parts.{Parts, ruleOf, listedText, MachineListed, crowded, overfull, made, ModelsListed, halts, runs, PartsListed}
+use Rattle.listing.specs.Shape.{shape}
 use Rattle.listing.specs.Listed as listed
-use Rattle.listing.specs.Listed.{ruleOf, listedText, MachineListed, crowded, overfull, made, ModelsListed, halts, runs}
-use Rattle.listing.specs.Listed.{PartsListed, ShapeListed, shaped, Listed, over, within}
+use Rattle.listing.specs.Listed.{ShapeListed, shaped, Listed, over, within}
 use Rattle.listing.proofs.Determined.{one-listing}
 use Rattle.demands.specs.Opened.{up, on}
 use Rattle.demands.specs.DirectRuns as direct-runs

@@ -17,11 +17,11 @@ use Rattle.printing.specs.Decimal.{decimal}
 use Rattle.printing.specs.Name.{unfilled}
 use Rattle.printing.specs.Turns.{inTurn}
 use Rattle.texts.specs.NamePart.{NameBytes, NameFormed}
-use Rattle.layout.specs.declared.places.Place.{Place}
-use Rattle.layout.specs.Layout.{standsAt}
-use Rattle.layout.specs.inner.Standing.{Stands}
-use Rattle.layout.proofs.Standing.{stands}
-use Rattle.layout.proofs.Sums.{check-same}
+use Rattle.places.specs.declared.Place.{Place}
+use Rattle.places.specs.Layout.{standsAt}
+use Rattle.places.specs.inner.Standing.{Stands}
+use Rattle.places.proofs.Standing.{stands}
+use Rattle.blocks.proofs.Sums.{check-same}
 use Rattle.image.specs.declared.machine.Header.{Header}
 use Rattle.image.specs.Image.{half, used, valueAs, valueAt, checkFor, byteAt, sizeOf, imageOf, headerOf, rowsOf, Canonical}
 use Rattle.image.proofs.Canonicals.{length-image, canonical-accepted, same-header, same-rows}

@@ -36,8 +36,9 @@ use Rattle.shims.proofs.Theorems.{read-written}
 use Rattle.runs.specs.Bytes.{direct}
 use Rattle.runs.specs.Call.{runGiven, outcome}
 use Rattle.runs.proofs.Longest.{longest-output}
-use Rattle.layout.specs.Layout.{limit}
-use Rattle.layout.specs.Barred.{statesOf, stages, lowestWrong, lowestBarred, verdictOf}
+use Rattle.places.specs.Layout.{limit}
+use Rattle.barred.specs.Barred.{statesOf}
+use Rattle.layout.specs.Verdict.{stages, lowestWrong, lowestBarred, verdictOf}
 use Rattle.image.specs.Calls.{writtenBack, Rewrites}
 use Rattle.image_runs.specs.Run.{Walked, ended, stopped, walked, outcomeOf, streamLimit, runAs, runOver}
 use Rattle.image_runs.specs.declared.Stop.{Stop}
@@ -48,9 +49,10 @@ use Rattle.drawing.specs.Calls.{drawn}
 use Rattle.drawing_reader.specs.Undrawing as undrawing
 use Rattle.drawing_reader.specs.Undrawing.{Undrawn, undrawn}
 use Rattle.generation.specs.Generating.{ImageGiven}
-use Rattle.listing.specs.Shape.{Parts}
+use Rattle.listed.specs.Parts.{Parts, MachineListed, ModelsListed, PartsListed}
+use Rattle.listed.specs.Parts as parts
 use Rattle.listing.specs.Listed as listed
-use Rattle.listing.specs.Listed.{MachineListed, ModelsListed, PartsListed, ShapeListed, Listed}
+use Rattle.listing.specs.Listed.{ShapeListed, Listed}
 use Rattle.listing.proofs.Theorems.{longest-listing}
 use Rattle.demands.specs.Drawings.{DrawnAs}
 use Rattle.demands.specs.Sizes.{textOut, runOut, imageRunOut, imageOut, drawingOut, listOut}
@@ -255,15 +257,15 @@ models-not-7 m stream = by-length (ltb 4096 (length stream))
     by-length false e = by (direct-is m stream) e
 
 machine-not-7 : {m : Models} {output : List ℕ} {g : Given} → MachineListed m output g → g ≡ refuses Refusal.BufferTooSmall → ⊥
-machine-not-7 (listed.crowded h) e = differ (cc)
-machine-not-7 (listed.overfull f h) e = differ (cc)
-machine-not-7 (listed.made f k d) e = differ (cc)
+machine-not-7 (parts.crowded h) e = differ (cc)
+machine-not-7 (parts.overfull f h) e = differ (cc)
+machine-not-7 (parts.made f k d) e = differ (cc)
 
 run-not-7 : {m : Models} {stream : List ℕ} {g : Given} → ModelsListed m stream g → g ≡ refuses Refusal.BufferTooSmall → ⊥
-run-not-7 {m} {stream} (listed.halts {why = why} r) e =
+run-not-7 {m} {stream} (parts.halts {why = why} r) e =
     let seven : why ≡ Refusal.BufferTooSmall = cc in
     models-not-7 m stream (r ∙ ap refuses seven)
-run-not-7 (listed.runs r h) e = machine-not-7 h e
+run-not-7 (parts.runs r h) e = machine-not-7 h e
 
 parts-not-7 : (p : Parts) (g : Given) → PartsListed p g → g ≡ refuses Refusal.BufferTooSmall → ⊥
 parts-not-7 p g = by (opening .verdict) refl

@@ -34,7 +34,8 @@ use Rattle.mealy.specs.Arrivals.{numbered}
 use Rattle.machine.specs.Spoken.{Letters, operations, spelling, machineOf, spoken}
 use Rattle.machine.specs.Counted.{SameState}
 use Rattle.machine.proofs.Theorems.{runs-like-the-rule, leads-to-a-state, same-state-exactly-when}
-use Rattle.layout.specs.Barred.{statesOf, upstreamFencesOf, verdictOf}
+use Rattle.barred.specs.Barred.{statesOf, upstreamFencesOf}
+use Rattle.layout.specs.Verdict.{verdictOf}
 use Rattle.layout.proofs.Faultless as layout
 use Rattle.image_runs.specs.declared.Stop.{Stop}
 use Rattle.image_runs.specs.declared.Step.{Step}

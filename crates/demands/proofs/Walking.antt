@@ -23,8 +23,8 @@ use Rattle.mealy.specs.Runs as mealy
 use Rattle.mealy.specs.Runs.{Machine, ends, go}
 use Rattle.mealy.specs.Arrivals.{numbered}
 use Rattle.machine.specs.Spoken.{puts, spelt, spelling, say, spoken}
-use Rattle.layout.specs.Layout.{position}
-use Rattle.layout.specs.Barred.{upstreamFencesOf}
+use Rattle.places.specs.Layout.{position}
+use Rattle.barred.specs.Barred.{upstreamFencesOf}
 use Rattle.image_runs.specs.declared.Stop.{Stop}
 use Rattle.image_runs.specs.declared.Move.{Move}
 use Rattle.image_runs.specs.declared.Step.{Step}

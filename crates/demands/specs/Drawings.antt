@@ -11,7 +11,7 @@ use Rattle.ground.specs.Bytes.{at}
 use Rattle.answers.specs.declared.Refusal.{Refusal}
 use Rattle.answers.specs.declared.Verdict.{Verdict}
 use Rattle.texts.specs.Language.{Language, Longest}
-use Rattle.layout.specs.Barred.{verdictOf}
+use Rattle.layout.specs.Verdict.{verdictOf}
 use Rattle.image.specs.Image.{headerOf, rowsOf}
 use Rattle.drawing.specs.Drawing.{drawingOf}
 use Rattle.demands.specs.ImageCalls.{ImageRefused}

@@ -14,8 +14,10 @@ use Rattle.operations.specs.declared.Operation.{Operation}
 use Rattle.operations.specs.declared.Byte.{Byte}
 use Rattle.operations.specs.Operation.{byteIs}
 use Rattle.operations.specs.Alphabet.{letterOf}
-use Rattle.layout.specs.Layout.{position}
-use Rattle.layout.specs.Barred.{wrong, blockCount, barred, statesOf, upstreamFencesOf, verdictOf}
+use Rattle.places.specs.Layout.{position}
+use Rattle.blocks.specs.Wrong.{wrong}
+use Rattle.barred.specs.Barred.{barred, statesOf, upstreamFencesOf}
+use Rattle.layout.specs.Verdict.{blockCount, verdictOf}
 use Rattle.image_runs.specs.Run.{ended, walked}
 
 -- what is wrong with an image

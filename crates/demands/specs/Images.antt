@@ -21,8 +21,9 @@ use Rattle.mealy.specs.Runs.{Answer, refused, taken, reached, Same}
 use Rattle.mealy.specs.Arrivals.{Described}
 use Rattle.machine.specs.Shim.{shim}
 use Rattle.machine.specs.Spoken.{machineOf}
-use Rattle.layout.specs.Layout.{blocksFor, position}
-use Rattle.layout.specs.Barred.{statesOf, upstreamFencesOf, targetFencesOf, verdictOf}
+use Rattle.places.specs.Layout.{blocksFor, position}
+use Rattle.barred.specs.Barred.{statesOf, upstreamFencesOf, targetFencesOf}
+use Rattle.layout.specs.Verdict.{verdictOf}
 use Rattle.image.specs.Image.{headerOf}
 use Rattle.image_runs.specs.declared.Stop.{Stop}
 use Rattle.image_runs.specs.Run.{refusalOf, runOver}

@@ -19,8 +19,8 @@ use Rattle.mealy.specs.Runs.{Answer, Same}
 use Rattle.mealy.specs.Arrivals.{Described}
 use Rattle.machine.specs.Shim.{shim}
 use Rattle.machine.specs.Counted.{ManySituations, ManyStates}
-use Rattle.listing.specs.Shape.{Parts, shape}
-use Rattle.listing.specs.Listed.{listedText}
+use Rattle.listed.specs.Parts.{Parts, listedText}
+use Rattle.listing.specs.Shape.{shape}
 use Rattle.demands.specs.Opened.{Opened, up, on, OpeningRefused}
 use Rattle.demands.specs.DirectRuns.{Accepts, StreamRefused}
 

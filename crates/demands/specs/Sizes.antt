@@ -1,6 +1,6 @@
 -- The sizes that include/shim.h calls never too small, each by its name there.
 use Prim.Native.Nat.{ℕ}
-use Rattle.layout.specs.Layout.{limit}
+use Rattle.places.specs.Layout.{limit}
 
 -- SHIM_TEXT_OUT: a model's text
 abbrev pub textOut : ℕ

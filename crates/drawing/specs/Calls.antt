@@ -3,7 +3,7 @@
 use Prim.Native.Nat.{ℕ}
 use mathlib.Core.List.{List}
 use Rattle.answers.specs.Given.{Given, gives, unlessRefused}
-use Rattle.layout.specs.Barred.{verdictOf}
+use Rattle.layout.specs.Verdict.{verdictOf}
 use Rattle.image.specs.Image.{headerOf, rowsOf}
 use Rattle.drawing.specs.Drawing.{drawingOf}
 

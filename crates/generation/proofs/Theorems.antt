@@ -29,8 +29,8 @@ use Rattle.machine.proofs.Theorems.{refused-8-exactly-when, refused-9-exactly-w
 use Rattle.making.specs.Made.{MachineMade}
 use Rattle.making.proofs.Read.{made-read}
 use Rattle.image.specs.declared.machine.Header.{Header}
-use Rattle.layout.specs.Layout.{blocksFor}
-use Rattle.layout.specs.Barred.{verdictOf}
+use Rattle.places.specs.Layout.{blocksFor}
+use Rattle.layout.specs.Verdict.{verdictOf}
 use Rattle.image.specs.Image.{headerOf, rowsOf, Canonical}
 use Rattle.image.proofs.Theorems.{read-written-accepted, read-written-header, read-written-rows, written-length}
 use Rattle.generation.specs.Generating.{headerFor, givenBy, blank, MachineGiven, ImageGiven}

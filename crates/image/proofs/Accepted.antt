@@ -11,17 +11,18 @@ use lib.Dec.{leb, ltb, eqb}
 use lib.ListN.{length}
 use Rattle.ground.specs.Bytes.{at}
 use Rattle.operations.specs.Alphabet.{stride}
-use Rattle.layout.specs.declared.places.Place.{Place}
-use Rattle.layout.specs.Checksum.{twoBytes}
-use Rattle.layout.specs.Layout.{standsAt, position}
-use Rattle.layout.specs.Barred.{checkOf, barredFence, nextBelow, statesOf, upstreamFencesOf, targetFencesOf, barredAs}
+use Rattle.places.specs.declared.Place.{Place}
+use Rattle.blocks.specs.Checksum.{twoBytes}
+use Rattle.places.specs.Layout.{standsAt, position}
+use Rattle.blocks.specs.Wrong.{checkOf}
+use Rattle.barred.specs.Barred.{barredFence, nextBelow, statesOf, upstreamFencesOf, targetFencesOf, barredAs}
 use Rattle.layout.specs.inner.Faultless.{Faultless}
-use Rattle.layout.specs.inner.Standing.{Stands}
+use Rattle.places.specs.inner.Standing.{Stands}
 use Rattle.layout.proofs.Faultless.{first-block, unbarred, rule-at, some-states, length-is, few-upstream, few-targets, block-of}
 use Rattle.layout.proofs.Faultless.{entry-fence, entry-next-rule, entry-next, entry-onward}
 use Rattle.layout.proofs.Failing.{equal}
-use Rattle.layout.proofs.Standing.{stands, upstream-at, target-at}
-use Rattle.layout.proofs.Sums.{check-same}
+use Rattle.places.proofs.Standing.{stands, upstream-at, target-at}
+use Rattle.blocks.proofs.Sums.{check-same}
 use Rattle.image.specs.Image.{word, half, used, valueAs, valueAt, checkFor, byteAt, imageOf, headerOf, entryWord, rowsOf, AccessWord, Canonical}
 use Rattle.image.proofs.Fronts.{at-listed, is-listed}
 use Rattle.image.proofs.NameFields.{good-field}

@@ -12,19 +12,22 @@ use lib.ListN.{length, take}
 use Rattle.ground.specs.Bytes.{at}
 use Rattle.answers.specs.declared.Verdict.{Verdict}
 use Rattle.operations.specs.Alphabet.{stride}
-use Rattle.layout.specs.declared.places.Place.{Place}
+use Rattle.places.specs.declared.Place.{Place}
 use Rattle.image.specs.declared.machine.Header.{Header}
-use Rattle.layout.specs.Checksum.{twoBytes}
-use Rattle.layout.specs.Layout.{limit, blocksFor, standsAt, position}
-use Rattle.layout.specs.Barred.{wrong, checkOf, blockCount, wrongCount, barredFence, nextBelow, statesOf, upstreamFencesOf, targetFencesOf}
-use Rattle.layout.specs.Barred.{barredAs, barred, verdictOf}
+use Rattle.blocks.specs.Checksum.{twoBytes}
+use Rattle.places.specs.Layout.{limit, blocksFor, standsAt, position}
+use Rattle.blocks.specs.Wrong.{wrong, checkOf}
+use Rattle.barred.specs.Barred.{wrongCount, barredFence, nextBelow, statesOf, upstreamFencesOf, targetFencesOf}
+use Rattle.layout.specs.Verdict.{blockCount}
+use Rattle.barred.specs.Barred.{barredAs, barred}
+use Rattle.layout.specs.Verdict.{verdictOf}
 use Rattle.image.specs.Image.{listed, word, half, used, valueAs, valueAt, checkFor, byteAt, sizeOf, imageOf, headerOf, entryWord, rowsOf}
 use Rattle.image.specs.Image.{AccessWord, Canonical}
 use Rattle.ground.proofs.Lowest.{none-nowhere}
 use Rattle.image.proofs.Fronts.{length-listed, at-listed, is-listed, front-whole}
-use Rattle.layout.proofs.Sums.{check-same}
-use Rattle.layout.specs.inner.Standing.{Stands}
-use Rattle.layout.proofs.Standing.{stands, number-at, fence-at, next-at, onward-at, upstream-at, target-at, within-image, entry-inside}
+use Rattle.blocks.proofs.Sums.{check-same}
+use Rattle.places.specs.inner.Standing.{Stands}
+use Rattle.places.proofs.Standing.{stands, number-at, fence-at, next-at, onward-at, upstream-at, target-at, within-image, entry-inside}
 use Rattle.image.proofs.Sealing.{byte-content, byte-high, byte-low}
 use Rattle.image.proofs.NameFields.{field-good}
 

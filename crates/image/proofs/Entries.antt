@@ -4,8 +4,8 @@ use mathlib.Core.Path.{_≡_, ap, ap₂, _∙_}
 use mathlib.Core.List.{List}
 use borrow.Author.Tests.{lt-ltb, le-ltb}
 use Rattle.ground.specs.Bytes.{at}
-use Rattle.layout.specs.Checksum.{twoBytes}
-use Rattle.layout.specs.Layout.{entryStart}
+use Rattle.blocks.specs.Checksum.{twoBytes}
+use Rattle.places.specs.Layout.{entryStart}
 use Rattle.image.specs.Image.{entryWord}
 
 module _ (image : List ℕ) (s a : ℕ) (entry : ℕ) (start : entry ≡ entryStart 1 s) where

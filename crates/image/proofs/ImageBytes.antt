@@ -11,10 +11,10 @@ use lib.Dec.{eqb, ltb}
 use lib.ListN.{List·getD-eq-default}
 use Rattle.ground.specs.Bytes.{at, nameByte}
 use Rattle.ground.proofs.Truths.{not-both}
-use Rattle.layout.specs.declared.places.Place.{Place}
-use Rattle.layout.specs.Layout.{standsAt}
-use Rattle.layout.specs.inner.Standing.{Stands}
-use Rattle.layout.proofs.Standing.{stands}
+use Rattle.places.specs.declared.Place.{Place}
+use Rattle.places.specs.Layout.{standsAt}
+use Rattle.places.specs.inner.Standing.{Stands}
+use Rattle.places.proofs.Standing.{stands}
 use Rattle.image.specs.declared.machine.Header.{Header}
 use Rattle.image.specs.Image.{word, half, used, valueAs, valueAt, checkFor, byteAt, sizeOf, imageOf, NameField, AccessWord, Canonical}
 use Rattle.image.proofs.Fronts.{at-listed}

@@ -10,7 +10,7 @@ use lib.ListN.{length, replicate, length-append, length-replicate, getD-replicat
 use lib.Seq.{getD-append-add}
 use Rattle.ground.proofs.Truths.{true-false}
 use Rattle.ground.specs.Bytes.{at, nameByte}
-use Rattle.layout.specs.Barred.{ended, barredName}
+use Rattle.barred.specs.Barred.{ended, barredName}
 use Rattle.image.specs.Image.{listed, NameField}
 use Rattle.layout.proofs.Failing.{chosen}
 use Rattle.image.proofs.Fronts.{length-listed, at-listed}

@@ -11,7 +11,8 @@ use Rattle.answers.specs.declared.Verdict.{Verdict}
 use Rattle.operations.specs.Alphabet.{stride}
 use Rattle.image.specs.declared.machine.Header.{Header}
 use Rattle.image.specs.declared.machine.Reading.{Reading}
-use Rattle.layout.specs.Barred.{statesOf, verdictOf}
+use Rattle.barred.specs.Barred.{statesOf}
+use Rattle.layout.specs.Verdict.{verdictOf}
 use Rattle.image.specs.Image.{headerOf, rowWord, rowsOf, refusedReading, ReadsAs, ReadsTo}
 use Rattle.image.specs.inner.Filling.{Filled}
 use Rattle.image.proofs.Fronts.{length-listed, filled-to, filled-whole}

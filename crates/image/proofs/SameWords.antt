@@ -9,11 +9,11 @@ use native.Mathlib.Decide.{decLt}
 use borrow.Author.Tests.{le-ltb}
 use lib.Dec.{ltb}
 use Rattle.operations.specs.Alphabet.{stride}
-use Rattle.layout.specs.declared.places.Place.{Place}
-use Rattle.layout.specs.Layout.{standsAt}
-use Rattle.layout.specs.inner.Standing.{Stands}
-use Rattle.layout.proofs.Standing.{stands}
-use Rattle.layout.proofs.Sums.{check-same}
+use Rattle.places.specs.declared.Place.{Place}
+use Rattle.places.specs.Layout.{standsAt}
+use Rattle.places.specs.inner.Standing.{Stands}
+use Rattle.places.proofs.Standing.{stands}
+use Rattle.blocks.proofs.Sums.{check-same}
 use Rattle.image.specs.declared.machine.Header.{Header}
 use Rattle.image.specs.Image.{word, half, used, valueAs, valueAt, checkFor, byteAt, imageOf, AccessWord, FenceWord, Canonical}
 use Rattle.image.proofs.Fronts.{length-listed, at-listed, is-listed}

@@ -7,11 +7,11 @@ use native.Mathlib.Omega.{arith}
 use borrow.Author.Tests.{lt-ltb, le-ltb, eq-eqb, ne-eqb}
 use lib.ListN.{length, set, take, length-set}
 use Rattle.image.specs.declared.machine.Header.{Header}
-use Rattle.layout.specs.Layout.{blocksFor}
-use Rattle.layout.specs.Barred.{checkOf}
+use Rattle.places.specs.Layout.{blocksFor}
+use Rattle.blocks.specs.Wrong.{checkOf}
 use Rattle.image.specs.Image.{half, valueAt, checkFor, byteAt, imageOf, sizeOf}
 use Rattle.image.specs.inner.Filling.{Front, sealed}
-use Rattle.layout.proofs.Sums.{check-same}
+use Rattle.blocks.proofs.Sums.{check-same}
 use Rattle.image.proofs.Fronts.{front-more, front-whole}
 
 module _ (h : Header) (rows : List ℕ) where

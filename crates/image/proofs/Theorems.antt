@@ -7,8 +7,8 @@ use Rattle.ground.specs.Bytes.{at}
 use Rattle.answers.specs.declared.Verdict.{Verdict}
 use Rattle.operations.specs.Alphabet.{stride}
 use Rattle.image.specs.declared.machine.Header.{Header}
-use Rattle.layout.specs.Layout.{blocksFor}
-use Rattle.layout.specs.Barred.{verdictOf}
+use Rattle.places.specs.Layout.{blocksFor}
+use Rattle.layout.specs.Verdict.{verdictOf}
 use Rattle.layout.proofs.Faultless.{accepted-faultless}
 use Rattle.image.specs.Image.{imageOf, headerOf, rowsOf, Canonical, LaidOut}
 use Rattle.image.proofs.Accepted.{image-same, canonical-read}

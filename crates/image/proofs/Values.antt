@@ -3,9 +3,9 @@ use Prim.Native.Nat.{ℕ, _<_, _≤_}
 use mathlib.Core.Path.{_≡_, sym, ap, _∙_}
 use mathlib.Core.List.{List}
 use borrow.Author.Tests.{lt-ltb, le-ltb}
-use Rattle.layout.specs.declared.places.Place.{Place}
+use Rattle.places.specs.declared.Place.{Place}
 use Rattle.image.specs.declared.machine.Header.{Header}
-use Rattle.layout.specs.Layout.{standsAt}
+use Rattle.places.specs.Layout.{standsAt}
 use Rattle.image.specs.Image.{used, valueAs, valueAt}
 
 module _ (h : Header) (s n v w : ℕ) (states : n ≡ h .states) where

@@ -17,7 +17,8 @@ use Rattle.answers.specs.declared.Verdict.{Verdict}
 use Rattle.operations.specs.Alphabet.{stride}
 use Rattle.image.specs.declared.machine.Header.{Header}
 use Rattle.image.specs.declared.machine.Reading.{Reading}
-use Rattle.layout.specs.Barred.{statesOf, upstreamFencesOf, targetFencesOf, verdictOf}
+use Rattle.barred.specs.Barred.{statesOf, upstreamFencesOf, targetFencesOf}
+use Rattle.layout.specs.Verdict.{verdictOf}
 use Rattle.image.specs.Image.{imageOf, headerOf, rowsOf, readAs, rowsAs, ReadsTo}
 use Rattle.image.specs.Calls.{writtenBack, headerAs}
 use Rattle.image.proofs.Readings.{length-rows}

@@ -14,12 +14,13 @@ use Rattle.answers.specs.Buffer.{bufferWith}
 use Rattle.answers.specs.declared.Refusal.{Refusal}
 use Rattle.answers.specs.declared.Verdict.{Verdict}
 use Rattle.operations.specs.Alphabet.{accessLetters, stride}
-use Rattle.layout.specs.declared.places.Place.{Place}
+use Rattle.places.specs.declared.Place.{Place}
 use Rattle.image.specs.declared.machine.Header.{Header}
 use Rattle.image.specs.declared.machine.Reading.{Reading}
-use Rattle.layout.specs.Checksum.{twoBytes, checksum}
-use Rattle.layout.specs.Layout.{accesses, blocksFor, standsAt, position}
-use Rattle.layout.specs.Barred.{statesOf, upstreamFencesOf, targetFencesOf, verdictOf}
+use Rattle.blocks.specs.Checksum.{twoBytes, checksum}
+use Rattle.places.specs.Layout.{accesses, blocksFor, standsAt, position}
+use Rattle.barred.specs.Barred.{statesOf, upstreamFencesOf, targetFencesOf}
+use Rattle.layout.specs.Verdict.{verdictOf}
 
 -- the first n values of f
 unfoldable pub listed : ℕ → (ℕ → ℕ) → List ℕ

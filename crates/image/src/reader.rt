@@ -10,7 +10,6 @@ use crate::machine::Header;
 use crate::machine::Reading;
 use answers::Refusal;
 use answers::Verdict;
-use layout::places;
 use layout::verdict;
 use operations::alphabet::ACCESSES;
 use operations::alphabet::STRIDE;

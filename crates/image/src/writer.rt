@@ -3,17 +3,15 @@ ghost use Prim.Native.Nat.{_+_, _*_, _/_, _%_, _^_, _<_};
 ghost use mathlib.Core.Path.{_≡_};
 ghost use lib.ListN.{length};
 ghost use Rattle.answers.specs.Given.{gives, Delivers};
-ghost use Rattle.layout.specs.Layout.{limit};
+ghost use Rattle.places.specs.Layout.{limit};
 ghost use Rattle.image.specs.Image.{word, half, used, sizeOf, valueAt, byteAt, imageOf};
 ghost use Rattle.image.specs.inner.Filling.{Front, sealed};
 use crate::machine::Header;
 use answers::Answer;
-use layout::checksum;
-use layout::places;
-use layout::places::Place;
 use layout::verdict::LIMIT;
 use operations::alphabet::ACCESSES;
 use operations::alphabet::STRIDE;
+use places::Place;
 
 fn word_at(rows: &[u16], state: usize, letter: usize) -> u16
     requires { ⌜ (state < 2 ^ 32) × (letter < 2 ^ 32) ⌝ }
@@ -96,7 +94,7 @@ fn seal(image: &mut [u8], b: usize)
     requires { ⌜ (b < 14) × (length (now image) ≡ limit) ⌝ }
     ensures { λ _. ⌜ now (image .exit) ≡ sealed (now (image .entry)) b ⌝ }
 {
-    let check = checksum::block_check(image, b);
+    let check = blocks::block_check(image, b);
     image[512 * b + 510] = (check / 256) as u8;
     image[512 * b + 511] = (check % 256) as u8;
 }

@@ -18,8 +18,9 @@ use Rattle.operations.specs.Alphabet.{letterOf}
 use Rattle.operations.proofs.Bytes.{fence-read}
 use Rattle.operations.proofs.Letters.{letter-few}
 use Rattle.operations.proofs.Counting.{fences-append}
-use Rattle.layout.specs.Layout.{position}
-use Rattle.layout.specs.Barred.{statesOf, upstreamFencesOf, targetFencesOf, verdictOf}
+use Rattle.places.specs.Layout.{position}
+use Rattle.barred.specs.Barred.{statesOf, upstreamFencesOf, targetFencesOf}
+use Rattle.layout.specs.Verdict.{verdictOf}
 use Rattle.layout.specs.inner.Faultless.{Faultless}
 use Rattle.layout.proofs.Faultless.{accepted-faultless, few-targets, entry-fence, entry-next, entry-onward}
 use Rattle.image_runs.specs.declared.Step.{Step}

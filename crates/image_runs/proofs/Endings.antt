@@ -13,7 +13,8 @@ use Rattle.answers.proofs.Given.{delivers-refusal, delivers-as}
 use Rattle.image_runs.specs.declared.Stop.{Stop}
 use Rattle.image_runs.specs.declared.Progress.{Progress}
 use Rattle.image_runs.specs.declared.Ending.{Ending}
-use Rattle.layout.specs.Barred.{statesOf, verdictOf}
+use Rattle.barred.specs.Barred.{statesOf}
+use Rattle.layout.specs.Verdict.{verdictOf}
 use Rattle.image_runs.specs.Run.{Walked, ended, stopped, walked, refusalOf, outcomeOf, streamLimit, runAs, runOver}
 use Rattle.image_runs.specs.inner.Walking.{Ends}
 

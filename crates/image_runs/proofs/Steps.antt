@@ -13,8 +13,8 @@ use Rattle.operations.specs.Operation.{byteIs, fenceByte}
 use Rattle.image_runs.specs.declared.Stop.{Stop}
 use Rattle.image_runs.specs.declared.Move.{Move}
 use Rattle.image_runs.specs.declared.Step.{Step}
-use Rattle.layout.specs.Layout.{entryStart, position}
-use Rattle.layout.specs.Barred.{upstreamFencesOf}
+use Rattle.places.specs.Layout.{entryStart, position}
+use Rattle.barred.specs.Barred.{upstreamFencesOf}
 use Rattle.image_runs.specs.Run.{accessStep, stepAs, stepAt}
 use Rattle.image_runs.specs.inner.Walking.{Small}
 

@@ -21,8 +21,9 @@ use Rattle.operations.specs.Alphabet.{letterOf}
 use Rattle.image_runs.specs.declared.Stop.{Stop}
 use Rattle.image_runs.specs.declared.Move.{Move}
 use Rattle.image_runs.specs.declared.Step.{Step}
-use Rattle.layout.specs.Layout.{accesses, position}
-use Rattle.layout.specs.Barred.{statesOf, upstreamFencesOf, verdictOf}
+use Rattle.places.specs.Layout.{accesses, position}
+use Rattle.barred.specs.Barred.{statesOf, upstreamFencesOf}
+use Rattle.layout.specs.Verdict.{verdictOf}
 
 -- an access whose entry has this fence byte and this next state
 abbrev pub accessStep : ℕ → ℕ → Step

@@ -10,7 +10,6 @@ ghost use Rattle.image_runs.specs.inner.Walking.{Small, Moved, Ends};
 use answers::Answer;
 use answers::Refusal;
 use answers::Verdict;
-use layout::places;
 use layout::verdict;
 use operations::Byte;
 use operations::Kind;

@@ -15,15 +15,18 @@ use Rattle.ground.specs.Bytes.{at}
 use Rattle.ground.proofs.Truths.{differ, true-false}
 use Rattle.answers.specs.declared.Refusal.{Refusal}
 use Rattle.answers.specs.declared.Verdict.{Verdict}
-use Rattle.layout.specs.declared.places.Place.{Place}
-use Rattle.layout.specs.Checksum.{twoBytes}
-use Rattle.layout.specs.Layout.{limit, blocksFor, standsAt, position}
-use Rattle.layout.specs.Barred.{wrong, blockCount, wrongCount, barredFence, nextBelow, statesOf, upstreamFencesOf, targetFencesOf}
-use Rattle.layout.specs.Barred.{barredAs, barred, lowestWrong, lowestBarred, stages, verdictOf}
+use Rattle.places.specs.declared.Place.{Place}
+use Rattle.blocks.specs.Checksum.{twoBytes}
+use Rattle.places.specs.Layout.{limit, blocksFor, standsAt, position}
+use Rattle.blocks.specs.Wrong.{wrong}
+use Rattle.barred.specs.Barred.{wrongCount, barredFence, nextBelow, statesOf, upstreamFencesOf, targetFencesOf}
+use Rattle.layout.specs.Verdict.{blockCount}
+use Rattle.barred.specs.Barred.{barredAs, barred}
+use Rattle.layout.specs.Verdict.{lowestWrong, lowestBarred, stages, verdictOf}
 use Rattle.layout.specs.inner.Faultless.{Faultless, Block}
 use Rattle.ground.proofs.Lowest.{lowest-nowhere}
 use Rattle.layout.proofs.Failing.{neither, chosen, equal}
-use Rattle.layout.proofs.Standing.{fence-at, next-at, onward-at, within-image}
+use Rattle.places.proofs.Standing.{fence-at, next-at, onward-at, within-image}
 
 -- the stages of an acceptance
 staged : (f g : Found) → stages f g ≡ Verdict.Accepted → (f ≡ Found.Nowhere) × (g ≡ Found.Nowhere)

@@ -1,8 +1,3 @@
-pub mod Tests
-pub mod Sums
-pub mod Blocks
-pub mod Names
-pub mod Standing
 pub mod Verdicts
 pub mod Zeros
 pub mod Failing

@@ -8,8 +8,9 @@ use Rattle.ground.specs.declared.Found.{Found}
 use Rattle.ground.specs.Lowest.{lowest}
 use Rattle.answers.specs.declared.Refusal.{Refusal}
 use Rattle.answers.specs.declared.Verdict.{Verdict}
-use Rattle.layout.specs.Layout.{limit}
-use Rattle.layout.specs.Barred.{wrong, blockCount, lowestBarred, stages, verdictOf}
+use Rattle.places.specs.Layout.{limit}
+use Rattle.blocks.specs.Wrong.{wrong}
+use Rattle.layout.specs.Verdict.{blockCount, lowestBarred, stages, verdictOf}
 
 module _ (image : List ℕ) where
   pub over-limit : limit < length image → Verdict.Refused Refusal.OverLimit ≡ verdictOf image

@@ -9,12 +9,13 @@ use lib.Dec.{ltb, leb}
 use lib.ListN.{length}
 use Rattle.ground.proofs.Lowest.{lowest-on, lowest-step}
 use Rattle.ground.specs.Bytes.{at}
-use Rattle.layout.specs.declared.places.Place.{Place}
-use Rattle.layout.specs.Layout.{standsAt}
-use Rattle.layout.specs.Barred.{statesOf, targetFencesOf, nextBelow, barredFence, barredAs, barred, lowestBarred}
+use Rattle.places.specs.declared.Place.{Place}
+use Rattle.places.specs.Layout.{standsAt}
+use Rattle.barred.specs.Barred.{statesOf, targetFencesOf, nextBelow, barredFence, barredAs, barred}
+use Rattle.layout.specs.Verdict.{lowestBarred}
 use Rattle.layout.specs.inner.Skipping.{barredFrom, Skips}
-use Rattle.layout.specs.inner.Standing.{Stands}
-use Rattle.layout.proofs.Standing.{stands, by-test}
+use Rattle.places.specs.inner.Standing.{Stands}
+use Rattle.places.proofs.Standing.{stands, by-test}
 
 module _ (image : List ℕ) where
   -- nothing is below 0, whatever a next state must stay below

@@ -1,4 +1,2 @@
-pub mod Checksum
-pub mod Layout
-pub mod Barred
+pub mod Verdict
 pub mod inner

@@ -1,4 +1,2 @@
-// What stands at each byte of an image, the checks of its blocks, and what is wrong with an image.
-pub mod checksum;
-pub mod places;
+// What is wrong with an image, and where.
 pub mod verdict;

@@ -1,18 +1,11 @@
 // What is wrong with an image, and where.
-ghost use Prim.Native.Nat.{_-_, _^_, _<_, _≤_};
+ghost use Prim.Native.Nat.{_<_, _≤_};
 ghost use mathlib.Core.Path.{_≡_};
-ghost use mathlib.Core.Bool.{not};
-ghost use lib.Dec.{leb, ltb, eqb};
 ghost use lib.ListN.{length};
-ghost use Rattle.ground.specs.Lowest.{lowest};
-ghost use Rattle.ground.specs.Bytes.{at};
-ghost use Rattle.layout.specs.Layout.{limit};
-ghost use Rattle.layout.specs.Barred.{wrong, wrongCount, blockCount, ended, upstreamFencesOf, targetFencesOf, nextBelow, barredName};
-ghost use Rattle.layout.specs.Barred.{barredFence, barred, lowestBarred, stages, verdictOf};
+ghost use Rattle.places.specs.Layout.{limit};
+ghost use Rattle.barred.specs.Barred.{targetFencesOf};
+ghost use Rattle.layout.specs.Verdict.{blockCount, lowestBarred, stages, verdictOf};
 ghost use Rattle.layout.specs.inner.Skipping.{Skips};
-use crate::checksum;
-use crate::places;
-use crate::places::Place;
 use answers::Refusal;
 use answers::Verdict;
 use ground::Found;
@@ -20,146 +13,15 @@ use ground::Found;
 // The limit of an image's length.
 pub const LIMIT: usize = 7168;
 
-// Whether a zero stands among the first k bytes of the name.
-fn has_ended(image: &[u8], from: usize, k: usize) -> bool
-    requires { ⌜ (from < 64) × (k < 64) ⌝ }
-    ensures { λ r. ⌜ r ≡ ended (now (image .entry)) from k ⌝ }
-{
-    let mut j = k;
-    while 0 < j {
-        if ground::byte_at(image, from + (j - 1)) == 0 {
-            return true;
-        }
-        j -= 1;
-    }
-    false
-}
-
-fn is_barred_name(image: &[u8], from: usize, k: usize) -> bool
-    requires { ⌜ (from < 64) × (k < 64) ⌝ }
-    ensures { λ r. ⌜ r ≡ barredName (now (image .entry)) from k ⌝ }
-{
-    let byte = ground::byte_at(image, from + k);
-    if byte == 0 {
-        return k == 0;
-    }
-    if ground::is_name_byte(byte) {
-        return has_ended(image, from, k);
-    }
-    true
-}
-
-// What a next state must stay below.
-fn next_below(image: &[u8], state: usize, leads: bool) -> usize
-    ensures { λ r. ⌜ (r ≡ nextBelow (now (image .entry)) state leads) × (r < 256) ⌝ }
-{
-    let states = ground::number_at(image, 4);
-    if states <= state {
-        return 1;
-    }
-    if leads { states } else { 1 }
-}
-
-fn is_wrong(image: &[u8], b: usize) -> bool
-    requires { ⌜ b < 2 ^ 50 ⌝ }
-    ensures { λ r. ⌜ r ≡ wrong (now (image .entry)) b ⌝ }
-{
-    let from = 512 * b;
-    if image.len() < from + 512 {
-        return true;
-    }
-    let number = checksum::two_bytes(image, from);
-    if number != b {
-        return true;
-    }
-    checksum::two_bytes(image, from + 510) != checksum::check(image, from)
-}
-
 // How many blocks there are by position; an empty image has a broken block 0.
 fn block_count(image: &[u8]) -> usize
     requires { ⌜ length (now image) ≤ limit ⌝ }
-    ensures { λ r. ⌜ (r ≡ blockCount (now (image .entry))) × (r < 2 ^ 50) ⌝ }
+    ensures { λ r. ⌜ r ≡ blockCount (now (image .entry)) ⌝ }
 {
     if image.len() == 0 {
         return 1;
     }
     (image.len() + 511) / 512
-}
-
-fn lowest_wrong(image: &[u8], count: usize) -> Found
-    requires { ⌜ count < 2 ^ 50 ⌝ }
-    ensures { λ r. ⌜ r ≡ lowest (wrong (now (image .entry))) 0 count ⌝ }
-{
-    let mut b = 0;
-    while b < count {
-        if is_wrong(image, b) {
-            return Found::At(b);
-        }
-        b += 1;
-    }
-    Found::Nowhere
-}
-
-// Whether a block count does not belong to so many states, or there are none.
-fn is_wrong_count(image: &[u8], states: usize) -> bool
-    requires { ⌜ states < 256 ⌝ }
-    ensures { λ r. ⌜ r ≡ wrongCount (now (image .entry)) states ⌝ }
-{
-    if states == 0 {
-        return true;
-    }
-    image.len() != 512 * places::blocks_for(states as u8)
-}
-
-fn is_barred_fence(image: &[u8], state: usize, value: usize) -> bool
-    ensures { λ r. ⌜ r ≡ barredFence (now (image .entry)) state value ⌝ }
-{
-    if ground::number_at(image, 4) <= state {
-        return 1 <= value;
-    }
-    if value < ground::number_at(image, 6) {
-        return false;
-    }
-    value < 254
-}
-
-fn is_barred_next(image: &[u8], i: usize, value: usize, state: usize) -> bool
-    requires { ⌜ 0 < i ⌝ }
-    ensures { λ r. ⌜ r ≡ leb (nextBelow (now (image .entry)) state (not (eqb (at (now (image .entry)) (i - 1)) 254))) value ⌝ }
-{
-    let leads = ground::number_at(image, i - 1) != 254;
-    let bound = next_below(image, state, leads);
-    bound <= value
-}
-
-fn is_barred_fence_next(image: &[u8], value: usize, state: usize, f: usize) -> bool
-    ensures { λ r. ⌜ r ≡ leb (nextBelow (now (image .entry)) state (ltb f (upstreamFencesOf (now (image .entry))))) value ⌝ }
-{
-    let leads = f < ground::number_at(image, 5);
-    let limit = next_below(image, state, leads);
-    limit <= value
-}
-
-fn is_barred(image: &[u8], i: usize) -> bool
-    ensures { λ r. ⌜ r ≡ barred (now (image .entry)) i ⌝ }
-{
-    let value = ground::number_at(image, i);
-    let place = places::stands_at(i);
-    match place {
-        Place::Number => false,
-        Place::Check => false,
-        Place::Nothing => 1 <= value,
-        Place::Form => value != 1,
-        Place::Way => 1 < value,
-        Place::States => is_wrong_count(image, value),
-        Place::UpstreamFences => 16 < value,
-        Place::TargetFences => 16 < value,
-        Place::UpstreamName(k) => is_barred_name(image, 7, k),
-        Place::TargetName(k) => is_barred_name(image, 23, k),
-        Place::Fence(state, _) => is_barred_fence(image, state, value),
-        Place::Next(state, _) => is_barred_next(image, i, value, state),
-        Place::FenceNext(state, f) => is_barred_fence_next(image, value, state, f),
-    }
 }
 
 // The first byte from here on that is not zero, or the end.
@@ -197,7 +59,7 @@ fn lowest_barred(image: &[u8]) -> Found
     let targets = ground::number_at(image, 6);
     let mut i = 0;
     while i < image.len() {
-        if is_barred(image, i) {
+        if barred::is_barred(image, i) {
             return Found::At(i);
         }
         i = next_to_examine(image, targets, i + 1);
@@ -223,7 +85,7 @@ pub fn examine(image: &[u8]) -> Verdict
     if LIMIT < image.len() {
         return Verdict::Refused(Refusal::OverLimit);
     }
-    let block = lowest_wrong(image, block_count(image));
+    let block = blocks::lowest_wrong(image, block_count(image));
     match block {
         Found::At(b) => Verdict::Refused(Refusal::BrokenBlock(b)),
         Found::Nowhere => examine_bytes(image),

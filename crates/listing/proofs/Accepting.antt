@@ -26,13 +26,13 @@ use Rattle.runs.specs.Bytes.{puts}
 use Rattle.runs.specs.Call.{runGiven}
 use Rattle.mealy.specs.Runs.{Answer, refused, taken, Same}
 use Rattle.mealy.specs.Arrivals.{Entry}
-use Rattle.listing.specs.Shape.{Parts, shape}
-use Rattle.listing.specs.Printed.{nextState}
-use Rattle.listing.specs.Listed.{ruleOf, listingOf, MachineListed, crowded, overfull, made, ModelsListed, halts, runs}
-use Rattle.listing.specs.Listed.{PartsListed, ShapeListed, shapeless, shaped, Listed, over, within}
+use Rattle.listed.specs.Parts.{Parts, ruleOf, listingOf, MachineListed, crowded, overfull, made, ModelsListed, halts, runs, PartsListed}
+use Rattle.listing.specs.Shape.{shape}
+use Rattle.listed.specs.Printed.{nextState}
+use Rattle.listing.specs.Listed.{ShapeListed, shapeless, shaped, Listed, over, within}
 use Rattle.listing.specs.inner.Accepted.{AcceptedInput}
-use Rattle.listing.specs.inner.Limits.{Limited}
-use Rattle.listing.proofs.Direct.{Short, run-short}
+use Rattle.listed.specs.inner.Limits.{Limited}
+use Rattle.listed.proofs.Direct.{Short, run-short}
 
 module _ (input text : List ℕ) (fences state : ℕ) where
   abbrev Accepts : Type 0

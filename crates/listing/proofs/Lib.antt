@@ -1,10 +1,6 @@
 pub mod Lines
 pub mod Endings
-pub mod Printing
-pub mod Longest
 pub mod Fits
-pub mod Direct
-pub mod Made
 pub mod Stages
 pub mod Determined
 pub mod Unique

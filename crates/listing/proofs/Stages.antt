@@ -8,9 +8,10 @@ use Rattle.answers.specs.declared.Refusal.{Refusal}
 use Rattle.answers.specs.declared.Answer.{Answer}
 use Rattle.answers.specs.Given.{Answers}
 use Rattle.answers.proofs.Given.{answers-refusal, answers-by}
-use Rattle.listing.specs.Shape.{lines, through, endingOf, Parts, withEnding, withTarget, withUpstream, shape}
+use Rattle.listed.specs.Parts.{Parts, PartsListed}
+use Rattle.listing.specs.Shape.{lines, through, endingOf, withEnding, withTarget, withUpstream, shape}
 use Rattle.listing.specs.inner.Finding.{TextOf}
-use Rattle.listing.specs.Listed.{PartsListed, ShapeListed, shapeless, shaped, Listed, over, within}
+use Rattle.listing.specs.Listed.{ShapeListed, shapeless, shaped, Listed, over, within}
 use Rattle.listing.proofs.Lines.{part-rest}
 
 module _ {o : Option Parts} {out after : List ℕ} {r : Answer} where

@@ -9,7 +9,7 @@ use Rattle.answers.specs.Given.{gives}
 use Rattle.listing.specs.Listed.{Listed}
 use Rattle.listing.specs.inner.Accepted.{AcceptedInput}
 use Rattle.listing.proofs.Accepting.{by-length, within-limits, limited}
-use Rattle.listing.proofs.Longest.{listing-length}
+use Rattle.listed.proofs.Longest.{listing-length}
 
 -- A call that gives a listing has found its parts, read its two models, run its stream and made its machine; the text tells these.
 pub accepted-input : (input text : List ℕ) (fences state : ℕ) → Listed input (gives text fences state) → AcceptedInput input text fences state

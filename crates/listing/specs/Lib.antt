@@ -1,4 +1,3 @@
 pub mod Listed
-pub mod Printed
 pub mod Shape
 pub mod inner

@@ -10,6 +10,7 @@ use lib.ListN.{length, getD, take, drop}
 use Rattle.ground.specs.Bytes.{bytes, sameBytes}
 use Rattle.rule.specs.declared.way.Way.{Way}
 use Rattle.shims.specs.declared.WayRead.{WayRead}
+use Rattle.listed.specs.Parts.{Parts}
 
 -- the lines of a text, each with its line feed; the last may lack it
 abbrev pub prefixed : ℕ → List (List ℕ) → List (List ℕ)
@@ -62,12 +63,6 @@ endingOf (w ∷ r ∷ []) = endingFrom (wayIn w) r
 endingOf (w ∷ r ∷ x ∷ xs) = none
 
 -- the parts of an input of the shape
-pub record Parts : Type 0 where
-  pub upstream : List ℕ
-  pub target : List ℕ
-  pub way : Way
-  pub stream : List ℕ
-
 abbrev pub withEnding : List ℕ → List ℕ → Option Ending → Option Parts
 withEnding upstream target none = none
 withEnding upstream target (some e) = some (record { upstream = upstream; target = target; way = e .way; stream = e .stream })

@@ -5,7 +5,7 @@ use answers::Refusal;
 
 fn show_refusal(why: Refusal) {
     let mut line = [0u8; 53];
-    let answer = listing::refusal_line(why, &mut line);
+    let answer = listed::refusal_line(why, &mut line);
     match answer {
         Answer::Done {
             written,

@@ -4,7 +4,7 @@ use mathlib.Core.Path.{_≡_}
 use mathlib.Core.List.{List}
 use lib.ListN.{length, set}
 use Rattle.ground.specs.Bytes.{at}
-use Rattle.layout.specs.Barred.{checkOf}
+use Rattle.blocks.specs.Wrong.{checkOf}
 
 -- the first n values of a list are those of f
 pub record Front (f : ℕ → ℕ) (n : ℕ) (l : List ℕ) : Type 0 where

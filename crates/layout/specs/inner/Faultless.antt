@@ -5,9 +5,11 @@ use mathlib.Core.Bool.{false}
 use mathlib.Core.List.{List}
 use lib.ListN.{length}
 use Rattle.ground.specs.Bytes.{at}
-use Rattle.layout.specs.Checksum.{twoBytes}
-use Rattle.layout.specs.Layout.{limit}
-use Rattle.layout.specs.Barred.{wrong, checkOf, blockCount, barred}
+use Rattle.blocks.specs.Checksum.{twoBytes}
+use Rattle.places.specs.Layout.{limit}
+use Rattle.blocks.specs.Wrong.{wrong, checkOf}
+use Rattle.barred.specs.Barred.{barred}
+use Rattle.layout.specs.Verdict.{blockCount}
 
 pub record Faultless (image : List ℕ) : Type 0 where
   pub fits : length image ≤ limit

@@ -5,7 +5,7 @@ use mathlib.Core.List.{List}
 use lib.ListN.{length}
 use Rattle.ground.specs.Lowest.{lowest}
 use Rattle.ground.specs.declared.Found.{Found}
-use Rattle.layout.specs.Barred.{barred}
+use Rattle.barred.specs.Barred.{barred}
 
 -- the lowest barred byte from byte i on
 abbrev pub barredFrom : List ℕ → ℕ → Found

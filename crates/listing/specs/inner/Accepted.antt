@@ -12,8 +12,8 @@ use Rattle.runs.specs.Bytes.{puts}
 use Rattle.runs.specs.Call.{runGiven}
 use Rattle.mealy.specs.Runs.{Answer, Same}
 use Rattle.mealy.specs.Arrivals.{Described}
-use Rattle.listing.specs.Shape.{Parts, shape}
-use Rattle.listing.specs.Listed.{ruleOf, listedText}
+use Rattle.listed.specs.Parts.{Parts, ruleOf, listedText}
+use Rattle.listing.specs.Shape.{shape}
 
 -- its parts and its two models, the output of the direct run, the states of the machine with their rows; and the text tells these
 pub record AcceptedInput (input text : List ℕ) (fences state : ℕ) : Type 0 where

@@ -4,7 +4,7 @@ use mathlib.Core.Path.{_∙_, _≡_, refl}
 use native.Mathlib.Omega.{arith}
 use borrow.Author.Needs.{needs}
 use lib.ListN.{length}
-use Rattle.layout.specs.Layout.{blocksFor}
+use Rattle.places.specs.Layout.{blocksFor}
 use Rattle.image.specs.Image.{byteAt}
 use Rattle.image.specs.inner.Filling.{Front}
 use Rattle.image.proofs.Fronts.{front-to, front-none}

@@ -1,7 +1,7 @@
 -- `half` meets its contract: its test is the definition's. Assumes nothing.
 use borrow.Author.Needs.{needs}
 use Rattle.image.specs.Image.{half}
-use Rattle.layout.proofs.Tests.{tests}
+use Rattle.places.proofs.Tests.{tests}
 use Rattle.image.proofs.writer.half.Statement.{statement}
 use Rattle.image.proofs.writer.half.Tie as tie
 

@@ -6,7 +6,7 @@ use lib.ListN.{length-set}
 use Rattle.image.specs.inner.Filling.{sealed}
 use Rattle.image.proofs.writer.seal.Statement.{statement}
 use Rattle.image.proofs.writer.seal.Tie as tie
-use Rattle.layout.proofs.Blocks.{check-there}
+use Rattle.blocks.proofs.Blocks.{check-there}
 
 block-check-requires : tie.Need-block-check-requires
 block-check-requires c κs = search needs

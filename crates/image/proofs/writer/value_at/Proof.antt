@@ -2,7 +2,7 @@
 use mathlib.Core.Path.{refl}
 use native.Mathlib.Omega.{arith}
 use borrow.Author.Needs.{needs}
-use Rattle.layout.proofs.Standing.{stands-at}
+use Rattle.places.proofs.Standing.{stands-at}
 use Rattle.image.proofs.Values.{value-as}
 use Rattle.image.proofs.writer.value_at.Statement.{statement}
 use Rattle.image.proofs.writer.value_at.Tie as tie

@@ -2,7 +2,7 @@
 use mathlib.Core.Path.{sym, ap, _∙_}
 use borrow.Author.Needs.{needs}
 use Rattle.ground.specs.declared.Found.{Found}
-use Rattle.layout.specs.Barred.{stages}
+use Rattle.layout.specs.Verdict.{stages}
 use Rattle.layout.proofs.verdict.examine_bytes.Statement.{statement}
 use Rattle.layout.proofs.verdict.examine_bytes.Tie as tie
 

@@ -5,7 +5,8 @@ use borrow.Author.Needs.{needs}
 use lib.ListN.{length}
 use Rattle.ground.proofs.Lowest.{lowest-here, lowest-none, lowest-start}
 use Rattle.layout.proofs.Zeros.{skips-on}
-use Rattle.layout.specs.Barred.{targetFencesOf, lowestBarred}
+use Rattle.barred.specs.Barred.{targetFencesOf}
+use Rattle.layout.specs.Verdict.{lowestBarred}
 use Rattle.layout.specs.inner.Skipping.{barredFrom}
 use Rattle.layout.proofs.verdict.lowest_barred.Statement.{statement}
 use Rattle.layout.proofs.verdict.lowest_barred.Tie as tie
