@@ -2,6 +2,7 @@
 import errno
 import os
 import resource
+import signal
 import stat
 import subprocess
 import threading
@@ -197,9 +198,13 @@ def closed_standard_output(trial):
     trial.nothing_left(ran, new)
 
 
-def limited(kind, soft, hard):
-    """For the run that follows: a limit. Its signal has the system's own effect, since subprocess gives that back."""
-    return lambda: resource.setrlimit(kind, (soft, hard))
+def file_limited(trial, size):
+    """No file may get larger. Only of the command alone is it asked that the signal does not end it: valgrind writes files too."""
+    def limit():
+        if len(trial.program) != 1:
+            signal.signal(signal.SIGXFSZ, signal.SIG_IGN)
+        resource.setrlimit(resource.RLIMIT_FSIZE, (size, size))
+    return limit
 
 
 def half_written(trial):
@@ -207,8 +212,7 @@ def half_written(trial):
     for turn, (words, data, written) in enumerate(outputs(trial)):
         name = trial.output(*([b"old" * 1000] if turn % 2 else []))
         before = standing(trial, name)
-        half = len(written) // 2
-        ran = trial.run(*words, "-o", name, data=data, preexec_fn=limited(resource.RLIMIT_FSIZE, half, half))
+        ran = trial.run(*words, "-o", name, data=data, preexec_fn=file_limited(trial, len(written) // 2))
         failed(trial, ran, name, "written", errno.EFBIG)
         trial.check(ran, standing(trial, name) == before, "the output file is not as it was")
         trial.nothing_left(ran, name)
@@ -322,6 +326,10 @@ def long_inputs(trial):
 SMALL = 256 * 1024  # less than shim.h says that generate, list and draw want
 
 
+def stack_limited(hard):
+    return lambda: resource.setrlimit(resource.RLIMIT_STACK, (SMALL, hard))
+
+
 def stacks(trial):
     """A small limit is raised, where that may be; else the calls that want more say so, and the others are made.
 
@@ -337,11 +345,11 @@ def stacks(trial):
     ]
     line = f"shim: the stack: cannot be made as large as the call wants: {os.strerror(errno.EINVAL)}; see ulimit -s\n".encode()
     for words, given, out in large:
-        trial.is_done(trial.run(*words, data=given, preexec_fn=limited(resource.RLIMIT_STACK, SMALL, hard)), out)
-        ran = trial.run(*words, data=given, preexec_fn=limited(resource.RLIMIT_STACK, SMALL, SMALL))
+        trial.is_done(trial.run(*words, data=given, preexec_fn=stack_limited(hard)), out)
+        ran = trial.run(*words, data=given, preexec_fn=stack_limited(SMALL))
         trial.check(ran, ran.status == 2 and ran.out == b"" and ran.err == line, f"must end with status 2 and {line!r}")
     for words in (["--version"], ["--help"], ["run", "--way", "full", "1", "15", "ssl0l"], ["compare", "1", "2"], ["builtin", "1"]):
-        ran = trial.run(*words, preexec_fn=limited(resource.RLIMIT_STACK, SMALL, SMALL))
+        ran = trial.run(*words, preexec_fn=stack_limited(SMALL))
         trial.is_done(ran, trial.run(*words).out)
 
 

@@ -88,6 +88,14 @@ def operands(trial):
     misused(trial, "run", "run", "--way", "full", "1")
 
 
+def only_before(trial):
+    """Where POSIXLY_CORRECT is set, options stand before operands."""
+    how = {"env": {**os.environ, "POSIXLY_CORRECT": "1"}}
+    trial.is_done(trial.run("run", "-q", "--way", "full", "1", "15", "ss", **how), b"s0s\n")
+    misused(trial, "run", "run", "--way", "full", "1", "15", "ss", "-q", **how)
+    misused(trial, "run", "run", "1", "15", "--way", "full", **how)
+
+
 def blamed(trial):
     """The word that is told is the one that is wrong."""
     for words, blame in (
@@ -124,7 +132,7 @@ def terminals(trial):
     drawing, data = trial.read(named["DRAWING"]), trial.read(named["INPUT"])
     calls = (["generate", "--way", "full", "1", "15"], b""), (["generate", "-"], data), (["undraw", "-"], drawing)
     for words, given in calls:
-        for more in ([], ["-o", "-"]):
+        for more in ([], ["-o", "-"], ["-o", "/dev/stdout"]):
             ran = terminal(trial, *words, *more, data=given)
             trial.check(ran, ran.status == 2 and ran.out == b"" and usage_of(ran.err, words[0]), "an image must not go to a terminal")
         name = trial.output()
@@ -155,7 +163,7 @@ def versions(trial):
 
 
 def tried(trial):
-    for part in (kinds, operands, blamed, subcommands, terminals, helps, versions):
+    for part in (kinds, operands, only_before, blamed, subcommands, terminals, helps, versions):
         part(trial)
     made = os.path.exists(trial.path("never-made"))
     trial.check(trial.run("--version"), not made, "misuse must make no file")
