@@ -9,6 +9,7 @@
 #include "command/command.h"
 
 #include <getopt.h>
+#include <signal.h>
 #include <stdarg.h>
 #include <stdio.h>
 #include <stdlib.h>
@@ -379,8 +380,11 @@ static const char *name_of(int option)
 /* `word` is the one that getopt has passed last. It stopped at a letter that it does not know, or else in that word. */
 ENDS static void refuse_option(int letter, const char *word)
 {
-    if (letter != 0 && name_of(letter) == NULL)
+    int known = letter == 0 || name_of(letter) != NULL;
+    if (!known && letter > ' ' && letter <= '~')
         misuse("-%c: there is no such option", letter);
+    if (!known)
+        misuse("-\\x%02X: there is no such option", letter & 0xFF);
     misuse("%s: there is no such option", word);
 }
 
@@ -425,6 +429,7 @@ static void count_operands(char **operands, int count)
 
 int main(int count, char **words)
 {
+    signal(SIGXFSZ, SIG_IGN); /* a limit of a file's size is told like any other fault */
     if (count < 2)
         misuse("a subcommand is missing");
     for (int i = 0; i < SUBCOMMANDS; i++)

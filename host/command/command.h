@@ -78,7 +78,7 @@ const char *take_apart(const struct input *whole, struct parts *parts, size_t *p
 
 /* ---- outputs.c */
 
-/* Does this output go to standard output, and to a terminal there? */
+/* Does this output go to standard output; does it go to a terminal? */
 int is_standard_output(const char *path);
 int is_terminal(const char *path);
 

@@ -3,6 +3,7 @@
 #include "command.h"
 
 #include <errno.h>
+#include <fcntl.h>
 #include <signal.h>
 #include <stdio.h>
 #include <stdlib.h>
@@ -27,7 +28,16 @@ int is_standard_output(const char *path)
 
 int is_terminal(const char *path)
 {
-    return is_standard_output(path) && isatty(STDOUT_FILENO);
+    struct stat there;
+    if (is_standard_output(path))
+        return isatty(STDOUT_FILENO);
+    if (stat(path, &there) != 0 || !S_ISCHR(there.st_mode))
+        return 0;
+    int device = open(path, O_WRONLY | O_NOCTTY | O_NONBLOCK);
+    int terminal = device >= 0 && isatty(device);
+    if (device >= 0)
+        close(device);
+    return terminal;
 }
 
 static void write_standard_output(const void *at, size_t length)
@@ -116,10 +126,7 @@ static char *name_beside(const char *path)
     return beside;
 }
 
-/*
- * A file beside the old one takes its place when it is whole. No signal that can be held back comes between, and a
- * limit of the file's size is told like any other fault.
- */
+/* A file beside the old one takes its place when it is whole. No signal that can be held back comes between. */
 static void replace(const char *path, const void *at, size_t length)
 {
     char *meant = meant_file(path), *beside = name_beside(meant);
@@ -127,7 +134,6 @@ static void replace(const char *path, const void *at, size_t length)
     sigset_t all, former;
     sigfillset(&all);
     sigprocmask(SIG_BLOCK, &all, &former);
-    signal(SIGXFSZ, SIG_IGN);
     int file = mkstemp(beside);
     if (file < 0)
         cannot(path, "written", "");
