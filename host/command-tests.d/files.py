@@ -218,6 +218,14 @@ def half_written(trial):
         trial.nothing_left(ran, name)
 
 
+def limited_standard_output(trial):
+    """Standard output is a file that may not get so large."""
+    for words, data, written in outputs(trial):
+        with open(trial.path(trial.output()), "wb") as file:
+            ran = trial.run(*words, data=data, stdout=file, preexec_fn=file_limited(trial, len(written) // 2))
+        failed(trial, ran, "standard output", "written", errno.EFBIG)
+
+
 # ---- the file that is written
 
 def mode_of(trial, name):
@@ -356,7 +364,7 @@ def stacks(trial):
 def tried(trial):
     for part in (
         unreadable, missing, unreadable_input, forgotten_prefix, unwritable, folders_as_outputs, protected, empty_names, piped,
-        full_standard_output, numbers_unwritten, closed_standard_output, half_written, modes, set_id_bits, links, dangling_links,
-        over_its_input, plain_name, long_inputs, stacks,
+        full_standard_output, limited_standard_output, numbers_unwritten, closed_standard_output, half_written, modes, set_id_bits, links,
+        dangling_links, over_its_input, plain_name, long_inputs, stacks,
     ):
         part(trial)
