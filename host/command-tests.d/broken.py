@@ -81,6 +81,7 @@ def shapes(up, target):
     returns = (run + b"run l\n").replace(b"\n", b"\r\n")
     return {
         "empty": (b"", 0, NO_END), "no-end": (up[:-4], len(up) - 4, NO_END), "one-end": (up + target[:-4], len(both) - 4, NO_END),
+        "end-unended": (both[:-1], len(both) - 1, NO_LINE_FEED), "one-unended": (up[:-1], len(up) - 1, NO_LINE_FEED),
         "end-with-return": (returns, len(returns), NO_END + RETURNS),
         "no-way": (both + b"run l\n", len(both), NO_WAY), "cut-before-way": (both, len(both), NO_WAY),
         "another-way": (both + b"way fast\nrun l\n", len(both), NO_WAY),

@@ -162,12 +162,13 @@ static size_t text_end(const struct input *whole, size_t from, int *ended)
     return from;
 }
 
-/* Is this a way's line without its line feed? Then the place is where that must stand. */
-static int is_cut(const struct input *whole, size_t *place)
+/* The first byte of the last line. */
+static size_t last_line(const struct input *whole)
 {
-    int cut = line_is(whole, *place, "way full") || line_is(whole, *place, "way sparing");
-    *place = cut ? whole->length : *place;
-    return cut;
+    size_t start = whole->length;
+    while (start > 0 && whole->at[start - 1] != '\n')
+        start--;
+    return start;
 }
 
 const char *take_apart(const struct input *whole, struct parts *parts, size_t *place)
@@ -176,11 +177,15 @@ const char *take_apart(const struct input *whole, struct parts *parts, size_t *p
     int ended;
     size_t target = text_end(whole, 0, &ended), way = text_end(whole, target, &ended);
     *place = way;
-    if (!ended)
+    if (!ended && !line_is(whole, last_line(whole), "end"))
         return "a model's text ends with a line 'end', and there must be two texts";
-    int full = line_is(whole, way, "way full\n");
-    if (!full && !line_is(whole, way, "way sparing\n"))
-        return is_cut(whole, place) ? unended : "a line 'way full' or 'way sparing' must stand here";
+    int full = line_is(whole, way, "way full\n"), sparing = line_is(whole, way, "way sparing\n");
+    int cut = !ended || line_is(whole, way, "way full") || line_is(whole, way, "way sparing");
+    *place = cut ? whole->length : way;
+    if (cut)
+        return unended;
+    if (!full && !sparing)
+        return "a line 'way full' or 'way sparing' must stand here";
     size_t stream = line_end(whole, way) + strlen(run), end = line_end(whole, line_end(whole, way));
     *place = line_end(whole, way);
     if (end < stream || memcmp(whole->at + *place, run, strlen(run)) != 0)
