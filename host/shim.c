@@ -3,7 +3,8 @@
  * page.
  *
  * A subcommand reads its inputs, makes its call and writes what the call wrote. Only if the call is refused does it
- * look which input it was: they are judged one by one, in the order of the call's refusals (command/refusals.c).
+ * look which input it was: they are judged one by one, in the order of the call's refusals (command/refusals.c). An
+ * input of shimlist that `generate` gets is taken apart before the call.
  */
 #define _XOPEN_SOURCE 700
 #include "command/command.h"

@@ -101,6 +101,7 @@ def blamed(trial):
     for words, blame in (
         ("run --way=full -xq 1 15 ss", "-x"), ("run --quiet -xq 1 15", "-x"), ("run -qx --way full 1 15 ss", "-x"),
         ("run --way full 1 15 ss -q -xo", "-x"), ("run --way full --quite 1 15 ss", "--quite"), ("model --x=-y 1", "--x=-y"),
+        ("model -\u00e9 1", r"-\xC3"),  # its first byte in UTF-8
     ):
         ran = trial.run(*words.split())
         trial.check(ran, ran.err.startswith(f"shim: {blame}: there is no such option\n".encode()), f"{blame} is what is wrong")

@@ -64,8 +64,9 @@ static void write_special(const char *path, const void *at, size_t length)
     FILE *file = fopen(path, "wb");
     if (file == NULL)
         cannot(path, "written", "");
-    size_t count = fwrite(at, 1, length, file);
-    if (fclose(file) != 0 || count != length)
+    if (fwrite(at, 1, length, file) != length || fflush(file) != 0)
+        cannot(path, "written", "");
+    if (fclose(file) != 0)
         cannot(path, "written", "");
 }
 
