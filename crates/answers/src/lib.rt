@@ -4,7 +4,7 @@ ghost use Rattle.answers.specs.Answer.{number_of, place_of, numbers_of};
 ghost use Rattle.answers.specs.Given.{gives, Delivers};
 
 // A refusal, with its place where it has one other than 0.
-#[derive(Drop)]
+#[derive(Clone, Copy)]
 pub enum Refusal {
     OverLimit,
     NotOfTheForm(usize),
@@ -68,7 +68,7 @@ pub enum Verdict {
 }
 
 // What a call that writes answers. A call without fences or an end state gives 0 there.
-#[derive(Drop)]
+#[derive(Clone, Copy)]
 pub enum Answer {
     Done {
         written: usize,

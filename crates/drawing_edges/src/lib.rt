@@ -11,7 +11,7 @@ use operations::{Byte, Operation, alphabet};
 use texts::{Part, Step};
 
 // How many states a machine has, how many letters, and how many fences its target has.
-#[derive(Drop)]
+#[derive(Clone, Copy)]
 pub struct Shape {
     pub states: u8,
     pub letters: usize,

@@ -3,7 +3,7 @@
 use answers::Verdict;
 
 // Bytes, so that every header has an image. The names are filled up with zeros.
-#[derive(Drop)]
+#[derive(Clone, Copy)]
 pub struct Header {
     pub way: u8,
     pub states: u8,

@@ -3,13 +3,13 @@ use answers::Verdict;
 use tables::table::Table;
 
 // A name of 1 to 16 bytes, filled up with zeros.
-#[derive(Drop)]
+#[derive(Clone, Copy)]
 pub struct Name {
     pub bytes: [u8; 16],
 }
 
 // Past its last fence a model holds nothing: table 0 and a name of zeros.
-#[derive(Drop)]
+#[derive(Clone, Copy)]
 pub struct Model {
     pub ppo: Table,
     pub fences: usize,

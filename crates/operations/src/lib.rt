@@ -5,7 +5,7 @@ ghost use Rattle.std.specs.Prelude.{◌≡◌};
 ghost use Rattle.operations.specs.Operation.{byte_is, access_byte, fence_byte, byte_of};
 
 // The kinds of access.
-#[derive(Drop)]
+#[derive(Clone, Copy)]
 pub enum Kind {
     Ld,
     Cld,

@@ -6,7 +6,7 @@ ghost use Rattle.rule.specs.Situation.{in_rows, outside_rows, in_columns, asks, 
 use operations::Kind;
 use tables::table::{Column, Row, Table};
 
-#[derive(Drop)]
+#[derive(Clone, Copy)]
 pub struct Situation {
     pub need: Table,
     pub low: Table,

@@ -11,14 +11,14 @@ use ground::Found;
 use operations::Kind;
 use tables::table::Table;
 
-#[derive(Drop)]
+#[derive(Clone, Copy)]
 pub enum Way {
     Sparing,
     Full,
 }
 
 // What stays the same through a run, but for the fences' tables, which are lent beside it: the way and the two defaults.
-#[derive(Drop)]
+#[derive(Clone, Copy)]
 pub struct Shim {
     pub way: Way,
     pub upstream: Table,

@@ -17,7 +17,7 @@ pub enum WayRead {
 }
 
 // What a shim stands between, and how it chooses.
-#[derive(Drop)]
+#[derive(Clone, Copy)]
 pub struct Models {
     pub way: Way,
     pub upstream: Model,

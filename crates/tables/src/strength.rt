@@ -3,7 +3,7 @@
 ghost use Rattle.std.specs.Prelude.{◌≡◌, max, min, leb};
 ghost use Rattle.tables.specs.Strength.{level_of, letter};
 
-#[derive(Drop)]
+#[derive(Clone, Copy)]
 pub struct Strength {
     pub level: u8,
 }

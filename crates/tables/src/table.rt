@@ -10,7 +10,7 @@ ghost use Rattle.tables.specs.inner.Planes.{ones, over_plane, picked_table};
 use crate::strength::Strength;
 
 // The earlier access of a pair, by its kind.
-#[derive(Drop)]
+#[derive(Clone, Copy)]
 pub enum Row {
     Cld,
     Cst,
@@ -27,7 +27,7 @@ pub enum Column {
     Cst,
 }
 
-#[derive(Drop)]
+#[derive(Clone, Copy)]
 pub struct Table {
     pub packed: u64,
 }

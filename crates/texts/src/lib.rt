@@ -5,7 +5,7 @@ ghost use Rattle.texts.specs.Pattern.{cell_byte, fits, follow_at};
 ghost use Rattle.texts.specs.NamePart.{name_run, name_at};
 ghost use Rattle.texts.specs.NumberPart.{is_digit, with_digit, digit_goes_on, part_shift, number_rest, number_at};
 
-#[derive(Drop)]
+#[derive(Clone, Copy)]
 pub enum Step {
     Next(usize),
     Stuck(usize),
