@@ -1,4 +1,6 @@
 // What a call answers: the refusals of document 01's table, and the five numbers of an answer.
+#![tactic(auto)]
+
 ghost use Rattle.std.specs.Prelude.{◌≡◌};
 ghost use Rattle.answers.specs.Answer.{number_of, place_of, numbers_of};
 ghost use Rattle.answers.specs.Given.{gives, Delivers};
@@ -95,6 +97,7 @@ impl Answer {
 }
 
 // Writes the text to the buffer, or nothing where it does not fit. A call that writes makes its text apart and ends with this.
+#[tactic(auto, using(crate::proofs::Laws::buffer_not, crate::proofs::Laws::answer_not, crate::proofs::Laws::answer_fits, crate::proofs::Laws::copied_more, crate::proofs::Laws::copied_all))]
 pub fn write_out(text: &[u8], fences: usize, state: usize, out: &mut [u8]) -> Answer
     ensures { Delivers (gives text.now fences state) out.old result out.new }
 {

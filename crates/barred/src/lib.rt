@@ -1,4 +1,6 @@
 // Which bytes of an image hold a value that the layout bars.
+#![tactic(auto)]
+
 ghost use Rattle.std.specs.Prelude.{◌-◌, ◌<◌, ◌≡◌, not, leb, ltb, eqb};
 ghost use Rattle.ground.specs.Bytes.{at};
 ghost use Rattle.barred.specs.Barred.{wrong_count, ended, upstream_fences_of, next_below, barred_name, barred_fence, barred};

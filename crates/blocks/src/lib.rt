@@ -1,4 +1,6 @@
 // The blocks of an image: the number and the check of each.
+#![tactic(auto)]
+
 ghost use Rattle.std.specs.Prelude.{ℕ, ◌+◌, ◌-◌, ◌*◌, ◌<◌, ◌≤◌, ◌≡◌, length};
 ghost use Rattle.ground.specs.Bytes.{at};
 ghost use Rattle.ground.specs.Lowest.{lowest};

@@ -1,4 +1,6 @@
 // The sixteen built-in models.
+#![tactic(auto)]
+
 mod numbers;
 
 ghost use Rattle.std.specs.Prelude.{◌≡◌};

@@ -1,5 +1,7 @@
 // What the programs that run the calls on cases share: reading the cases, and the texts of what a call answered and left in its buffer. The
 // programs print them: no contract can say what is written to standard output, so nothing here writes to it.
+#![tactic(auto)]
+
 ghost use Rattle.std.specs.Prelude.{◌≡◌, min, [], ◌∷◌, ◌++◌, length, take, drop, slice_index};
 ghost use Rattle.ground.specs.Bytes.{bytes};
 ghost use Rattle.answers.specs.Answer.{numbers_of};

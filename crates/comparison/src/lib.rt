@@ -1,4 +1,6 @@
 // The comparison of two models by their default tables.
+#![tactic(auto)]
+
 ghost use Rattle.std.specs.Prelude.{◌≡◌};
 ghost use Rattle.comparison.specs.Comparison.{number_of, comparison, Compares, comparing, compared_both};
 

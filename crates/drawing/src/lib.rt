@@ -1,4 +1,6 @@
 // The drawing of a machine's image, in the DOT graph language.
+#![tactic(auto)]
+
 mod print;
 
 ghost use Rattle.std.specs.Prelude.{◌*◌, ◌≤◌, length};

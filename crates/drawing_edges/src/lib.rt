@@ -1,4 +1,6 @@
 // One edge of a drawing, read back: the word of a state and a letter.
+#![tactic(auto)]
+
 ghost use Rattle.std.specs.Prelude.{◌≤◌, ◌<◌, max, min, ◌≡◌, T};
 ghost use Rattle.texts.specs.Pattern.{is_word, follow_at};
 ghost use Rattle.texts.specs.Telling.{Through, Word, Finds, part_taken};

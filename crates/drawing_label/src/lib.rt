@@ -1,5 +1,7 @@
 // The label of a drawing, read back: both names, the way and the two numbers of fences. Its parts are followed in order, each function with what
 // stood before its own; the names are kept by their places until all of the label has been read, since an enum may hold no array.
+#![tactic(auto)]
+
 ghost use Rattle.std.specs.Prelude.{◌≡◌};
 ghost use Rattle.texts.specs.Telling.{Finds, part_taken};
 ghost use Rattle.drawing_label.specs.Label.{WayPart, FromTargets, FromUps, FromWay, FromTarget, FromUpstream, LabelPart};

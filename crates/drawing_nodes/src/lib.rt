@@ -1,4 +1,6 @@
 // The lines of a drawing's nodes, read back: one for each state, from 0.
+#![tactic(auto)]
+
 ghost use Rattle.texts.specs.Telling.{Finds};
 ghost use Rattle.drawing_nodes.specs.Nodes.{NodesEnd, NodesFrom, NodesPart, nodes_taken};
 

@@ -1,4 +1,6 @@
 // Generating to an image: two model texts, a way and a buffer.
+#![tactic(auto)]
+
 ghost use Rattle.std.specs.Prelude.{◌≡◌};
 ghost use Rattle.answers.specs.Given.{Delivers, Answers};
 ghost use Rattle.generation.specs.Generating.{header_for, given_by, MachineGiven, ImageGiven};

@@ -1,4 +1,6 @@
 // What every crate may stand on: bytes and their ranges, what stands at a place, whether two texts are the same, the first of some places.
+#![tactic(auto)]
+
 ghost use Rattle.std.specs.Prelude.{◌<◌, ◌≡◌};
 ghost use Rattle.ground.specs.Bytes.{at, in_range, name_byte, same_bytes};
 
@@ -56,6 +58,7 @@ pub fn is_name_byte(b: u8) -> bool
 }
 
 // Whether two texts are the same.
+#[tactic(auto, using(crate::proofs::Sameness::lengths_differ, crate::proofs::Sameness::same_not, crate::proofs::Sameness::same_more, crate::proofs::Sameness::same_done))]
 pub fn same<'a>(first: &'a [u8], second: &'a [u8]) -> bool
     ensures { result ≡ same_bytes first.now second.now }
 {

@@ -1,5 +1,7 @@
 // The calls for the C host: numbers as themselves, a region as a pointer and a length, and the answer's five numbers through a pointer that
 // every call sets whole. Each is one line over a call of a crate below.
+#![tactic(auto)]
+
 ghost use Rattle.std.specs.Prelude.{◌≡◌};
 ghost use Rattle.answers.specs.Answer.{numbers_of};
 ghost use Rattle.answers.specs.Given.{Delivers, Answers};

@@ -1,4 +1,6 @@
 // The machine image: blocks of 512 bytes, read and written.
+#![tactic(auto)]
+
 pub mod calls;
 pub mod machine;
 pub mod reader;

@@ -4,6 +4,8 @@
 // letter, what is printed first, four that the letter explains, and the end of the line; each field has a bar behind it.
 // Both the commands and the stored output come from tools/expect-image-cases, which has the model in host/model, that shares nothing with this
 // code, make the images and answer, and works the checks out by itself.
+#![tactic(auto)]
+
 mod handmade;
 mod show;
 mod tries;

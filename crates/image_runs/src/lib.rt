@@ -1,4 +1,6 @@
 // The run of a stream over an image.
+#![tactic(auto)]
+
 ghost use Rattle.std.specs.Prelude.{◌+◌, ◌*◌, ◌^◌, ◌<◌, ◌≤◌, ◌≡◌, length};
 ghost use Rattle.answers.specs.Given.{Delivers};
 ghost use Rattle.operations.specs.declared.Byte.{Byte};

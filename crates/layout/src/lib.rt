@@ -1,2 +1,4 @@
 // What is wrong with an image, and where.
+#![tactic(auto)]
+
 pub mod verdict;

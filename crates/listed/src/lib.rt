@@ -1,4 +1,6 @@
 // The listing of an input's parts, which are two model texts, a way and a stream; and the line of a refusal.
+#![tactic(auto)]
+
 mod print;
 
 ghost use Rattle.answers.specs.Given.{gives, Delivers, Answers};

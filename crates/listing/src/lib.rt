@@ -1,4 +1,6 @@
 // What `shimlist` prints: from the bytes of an input to the bytes of its listing.
+#![tactic(auto)]
+
 mod shape;
 
 ghost use Rattle.answers.specs.Given.{Answers};

@@ -1,5 +1,7 @@
 // Inputs worth showing, each behind a line that says what it is for. They stand on standard input: behind a heading, three fields for each, with a
 // bar behind each field. The cases and the stored output come from `tools/expect-listing-cases`, which asks the model in `host/model`.
+#![tactic(auto)]
+
 use cases::fields::{field, number};
 
 // An input of so many bytes that begins with the text, is filled up by loads, and ends in a line feed.

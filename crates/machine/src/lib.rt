@@ -1,4 +1,6 @@
 // The minimal machine of two models and a way.
+#![tactic(auto)]
+
 mod explore;
 mod index;
 pub mod machine;

@@ -3,6 +3,8 @@
 // standard input, the sparing way and the full way: behind a heading, a name and two texts, with a bar behind each. These are at the limits: 4,096
 // situations and one more, 255 states and one more, and both too many.
 // The stored output comes from the model in `host/model`, which shares nothing with this code: `tools/expect-machine-cases` asks it for each pair.
+#![tactic(auto)]
+
 use answers::Verdict;
 use cases::fields::field;
 use machine::machine::{Machine, Outcome};

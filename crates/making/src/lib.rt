@@ -1,4 +1,6 @@
 // The machine of two models that were read: the models are opened here for every call that makes a machine of them.
+#![tactic(auto)]
+
 ghost use Rattle.making.specs.Made.{MachineMade};
 
 use machine::machine::Outcome;

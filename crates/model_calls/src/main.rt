@@ -1,5 +1,7 @@
 // Tries the calls on models. It writes the text of each built-in model and reads it back, compares every two of them, and then reads each
 // of the texts on standard input, which have a bar behind each, behind a heading.
+#![tactic(auto)]
+
 use answers::Answer;
 use comparison::Compared;
 

@@ -1,4 +1,6 @@
 // The operations of a stream, each one byte, and the order in which a machine takes them (`alphabet`).
+#![tactic(auto)]
+
 pub mod alphabet;
 
 ghost use Rattle.std.specs.Prelude.{◌≡◌};

@@ -1,4 +1,6 @@
 // What stands at each byte of an image.
+#![tactic(auto)]
+
 ghost use Rattle.std.specs.Prelude.{◌^◌, ◌<◌, ◌≤◌, ◌≡◌};
 ghost use Rattle.places.specs.Layout.{limit, blocks_for, header_place, entry_place, content_place, stands_at, entry_start};
 

@@ -1,5 +1,7 @@
 // Texts put into a buffer one behind another: bytes, names and numbers in decimal. A text that does not fit is not put, and the place that is
 // told then is past the end, where nothing fits again: so puts are chained, and looked at once at the end.
+#![tactic(auto)]
+
 ghost use Rattle.std.specs.Prelude.{◌≡◌, length};
 ghost use Rattle.printing.specs.Decimal.{decimal};
 ghost use Rattle.printing.specs.Name.{unfilled};

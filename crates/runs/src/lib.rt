@@ -1,4 +1,6 @@
 // The direct run: two model texts, a way, a stream and a buffer.
+#![tactic(auto)]
+
 ghost use Rattle.std.specs.Prelude.{◌+◌, ◌≤◌, ◌<◌, ◌≡◌, length};
 ghost use Rattle.answers.specs.Given.{Delivers};
 ghost use Rattle.operations.specs.Operation.{byte_is, is_fence, fence_bytes};

@@ -2,6 +2,8 @@
 // behind the output. The cases stand on standard input: behind a heading, seven fields for each, with a bar behind each field. They are those of
 // document 01: the streams to try, the traps, the limits, and the refusals in their order.
 // The cases and the stored output come from `tools/expect-runs-cases`, which asks the model in `host/model`; that shares nothing with this code.
+#![tactic(auto)]
+
 use answers::Answer;
 use cases::fields::{field, number};
 

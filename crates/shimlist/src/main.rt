@@ -1,4 +1,5 @@
 // Prints the listing of an input from standard input, or the line of its refusal.
+#![tactic(auto)]
 
 // One byte more than an input may have is enough to tell that it has too many.
 fn main() {

@@ -1,5 +1,7 @@
 // What a call opens with: a way's number and two model texts, and what they name. The refusals of the way, of the upstream text and of the target
 // text, in this order, stand here for every call that takes them.
+#![tactic(auto)]
+
 ghost use Rattle.std.specs.Prelude.{◌≡◌, take};
 ghost use Rattle.shims.specs.Opening.{way_of, refusing, on_target, opened_by, opened};
 ghost use Rattle.shims.specs.Models.{shim_between};

@@ -1,4 +1,6 @@
 // Shows an input: writes its listing to standard output, or the line of its refusal.
+#![tactic(auto)]
+
 ghost use Rattle.show.specs.Shown.{Shown};
 
 use answers::{Answer, Refusal};

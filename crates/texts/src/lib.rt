@@ -1,5 +1,7 @@
 // Following a text. A part of the text is followed from a place of it; the answer is the place after the part, or the place at which the
 // text departs from it.
+#![tactic(auto)]
+
 ghost use Rattle.std.specs.Prelude.{◌≤◌, ◌<◌, ◌≡◌, drop};
 ghost use Rattle.texts.specs.Pattern.{cell_byte, fits, follow_at};
 ghost use Rattle.texts.specs.NamePart.{name_run, name_at};

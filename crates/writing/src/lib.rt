@@ -1,4 +1,6 @@
 // From a model to its text. The text is made in a buffer of the writer's own, so a refused call writes nothing.
+#![tactic(auto)]
+
 mod parts;
 
 ghost use Rattle.answers.specs.Given.{gives, Delivers};
