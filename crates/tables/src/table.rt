@@ -76,6 +76,7 @@ impl Table {
     }
 
     // S in the row, `-` elsewhere.
+    #[tactic(auto, unfolding(crate::specs::Table::row_table, crate::specs::Table::table))]
     pub fn row(row: Row) -> Table
         ensures { result ≡ row_table row }
     {
@@ -96,6 +97,7 @@ impl Table {
     }
 
     // S in the column, `-` elsewhere.
+    #[tactic(auto, unfolding(crate::specs::Table::column_table, crate::specs::Table::table))]
     pub fn column(column: Column) -> Table
         ensures { result ≡ column_table column }
     {
