@@ -4,12 +4,8 @@ use mathlib.Core.Path.{◌≡◌, sym, ap, ◌∙◌}
 use native.Mathlib.Omega.{arith}
 use Rattle.operations.specs.declared.Kind.{Kind}
 use Rattle.operations.specs.Operation.{byte_is}
-use Rattle.operations.proofs.Bytes.{NoLetter, access_read, digit_byte, letter_byte, no_byte}
+use Rattle.operations.proofs.Bytes.{access_read, digit_byte, letter_byte, no_byte}
 use Rattle.operations.proofs.read_byte.Goals as goal
-
--- none of the letters, as the match tells it
-none : {b : ℕ} → (((Unit {0} × (b ≡ 108 → ⊥)) × (b ≡ 76 → ⊥)) × (b ≡ 115 → ⊥)) × (b ≡ 83 → ⊥) → NoLetter b
-none h = (h.0.0.0.1, h.0.0.1, h.0.1, h.1)
 
 pub returns-in-108 : goal.returns-in-108
 returns-in-108 c = sym (ap byte_is c.in-108.is ∙ access_read Kind.Ld)
@@ -30,10 +26,10 @@ pub returns-in-65-to-70 : goal.returns-in-65-to-70
 returns-in-65-to-70 c = sym (letter_byte _ (omega arith) (omega arith))
 
 pub returns-in_default : goal.returns-in_default
-returns-in_default c = sym (no_byte _ (none c.in_default.rest) (λ l u. omega arith) (λ l u. omega arith))
+returns-in_default c = sym (no_byte _ (λ e. omega arith, λ e. omega arith, λ e. omega arith, λ e. omega arith) (λ l u. omega arith) (λ l u. omega arith))
 
 pub returns-in_default-2 : goal.returns-in_default-2
-returns-in_default-2 c = sym (no_byte _ (none c.in_default.rest) (λ l u. omega arith) (λ l u. omega arith))
+returns-in_default-2 c = sym (no_byte _ (λ e. omega arith, λ e. omega arith, λ e. omega arith, λ e. omega arith) (λ l u. omega arith) (λ l u. omega arith))
 
 pub returns-in_default-3 : goal.returns-in_default-3
-returns-in_default-3 c = sym (no_byte _ (none c.in_default.rest) (λ l u. omega arith) (λ l u. omega arith))
+returns-in_default-3 c = sym (no_byte _ (λ e. omega arith, λ e. omega arith, λ e. omega arith, λ e. omega arith) (λ l u. omega arith) (λ l u. omega arith))
