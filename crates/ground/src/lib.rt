@@ -1,8 +1,9 @@
 // What every crate may stand on: bytes and their ranges, what stands at a place, whether two texts are the same, the first of some places.
 #![tactic(auto)]
 
-ghost use Rattle.std.specs.Prelude.{◌<◌, ◌≡◌};
+ghost use Rattle.std.specs.Prelude.{◌<◌, ◌≤◌, ◌+◌, ◌≡◌, length, drop};
 ghost use Rattle.ground.specs.Bytes.{at, in_range, name_byte, same_bytes};
+ghost use Rattle.ground.specs.Search.{index_of};
 
 // The first of some places, if there is one.
 #[derive(Drop)]
@@ -73,4 +74,21 @@ pub fn same<'a>(first: &'a [u8], second: &'a [u8]) -> bool
         i += 1;
     }
     true
+}
+
+// The first place of a byte, from one on; the end where there is none.
+#[tactic(auto, using(crate::proofs::Search::found_here, crate::proofs::Search::not_here, crate::proofs::Search::none_left))]
+pub fn find(bytes: &[u8], from: usize, byte: u8) -> usize
+    requires { from ≤ length bytes.now }
+    ensures in_bounds { (from ≤ result) × (result ≤ length bytes.now) }
+    ensures value { result ≡ from + index_of byte (drop from bytes.now) }
+{
+    let mut i = from;
+    while i < bytes.len() {
+        if bytes[i] == byte {
+            return i;
+        }
+        i += 1;
+    }
+    i
 }
