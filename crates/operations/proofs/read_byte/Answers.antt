@@ -1,6 +1,5 @@
 -- `read_byte` meets its contract: one law for each letter and each range. Assumes nothing.
-use Prim.Native.Nat.{ℕ}
-use mathlib.Core.Path.{◌≡◌, sym, ap, ◌∙◌}
+use mathlib.Core.Path.{sym, ap, ◌∙◌}
 use native.Mathlib.Omega.{arith}
 use Rattle.operations.specs.declared.Kind.{Kind}
 use Rattle.operations.specs.Operation.{byte_is}

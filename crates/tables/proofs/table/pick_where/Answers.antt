@@ -1,7 +1,6 @@
 -- `pick_where` meets its contract: the two planes are picked and joined. Assumes nothing.
-use Rattle.std.proofs.Common.{ℕ, ◌+◌, ◌*◌, ◌≡◌, ap, ◌∙◌, arith}
+use Rattle.std.proofs.Common.{ℕ, ◌+◌, ◌*◌, ap, ◌∙◌, arith}
 use mathlib.Core.Path.{ap₂}
-use Rattle.tables.specs.Cells.{packed}
 use Rattle.tables.proofs.Planes.{picked_highs, picked_lows, high_from, low_from, picked_joined, plane_fits}
 use Rattle.tables.proofs.Laws.{picked_places}
 use Rattle.tables.proofs.table.pick_where.Goals as goal
