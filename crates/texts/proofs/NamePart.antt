@@ -1,5 +1,5 @@
 -- Following a name and the byte after it: found whole, or stopped at the longest beginning that a name allows. Assumes nothing.
-use Prim.Native.Nat.{ℕ, zero, suc, ◌+◌, ◌-◌, ◌≤◌, ◌<◌, suc-le-suc, zero-le}
+use Prim.Native.Nat.{ℕ, zero, suc, ◌+◌, ◌≤◌, ◌<◌, suc-le-suc, zero-le}
 use mathlib.Core.Path.{◌≡◌, refl, sym, ap, ◌∙◌, subst}
 use mathlib.Core.Bool.{Bool, true, false, cond}
 use mathlib.Core.List.{List, [], ◌∷◌, ◌++◌, append-nil, append_assoc}
@@ -74,8 +74,8 @@ module _ (e : ℕ) (not-name : T (name_byte e) → ⊥) where
       ∙ ap (λ (l : List ℕ). get_or l (length n) 0) whole
       ∙ get_or_at n e [] 0 (length n) refl
 
-  name_at : (n : List ℕ) → NameFormed n → (i : ℕ) → i < length n → T (name_byte (get_or n i 0))
-  name_at n f i li = each_at (λ (b : ℕ). T (name_byte b)) n 0 f.bytes i li
+  formed_at : (n : List ℕ) → NameFormed n → (i : ℕ) → i < length n → T (name_byte (get_or n i 0))
+  formed_at n f i li = each_at (λ (b : ℕ). T (name_byte b)) n 0 f.bytes i li
 
   module _ (s : List ℕ) (k : ℕ) (r : Run 16 s k) where
     in_run : (i : ℕ) → i < k → T (name_byte (get_or s i 0))
@@ -91,7 +91,7 @@ module _ (e : ℕ) (not-name : T (name_byte e) → ⊥) where
     not_past : (rest n : List ℕ) (j : ℕ) → j ≤ length s → k < j → NameFormed n → take j s ++ rest ≡ n ++ (e ∷ []) → k < length n → ⊥
     not_past rest n j lj kj f whole l =
         r.ends (omega (arith, f.few)) (omega arith)
-        (subst (λ (b : ℕ). T (name_byte b)) (sym (in_name s rest n j k lj kj whole l)) (name_at n f k l))
+        (subst (λ (b : ℕ). T (name_byte b)) (sym (in_name s rest n j k lj kj whole l)) (formed_at n f k l))
 
     -- so it ends with it
     ends_with : (rest n : List ℕ) (j : ℕ) → j ≤ length s → k < j → NameFormed n → take j s ++ rest ≡ n ++ (e ∷ []) → length n ≡ k
@@ -174,7 +174,7 @@ free_ended e not-name s m n lm ln (a, fa, ea) (b, fb, eb) = by (dec_lt (length a
         let wj : take j s ++ [] ≡ f ++ (e ∷ []) = append-nil (take j s) ∙ fj in
         let ends : get_or s (length c) 0 ≡ e = at_end e not-name s [] c i li (omega (arith, long c i li ci)) wi in
         let goes_on : get_or s (length c) 0 ≡ get_or f (length c) 0 = in_name e not-name s [] f j (length c) lj (omega (arith, long f j lj fj)) wj l in
-        not-name (subst (λ (x : ℕ). T (name_byte x)) (sym goes_on ∙ ends) (name_at e not-name f formed (length c) l))
+        not-name (subst (λ (x : ℕ). T (name_byte x)) (sym goes_on ∙ ends) (formed_at e not-name f formed (length c) l))
 
     by : Dec (length a < length b) → Dec (length b < length a) → m ≡ n
     by (yes l) q = absurd (apart a b m n lm ln ea eb fb l)

@@ -75,6 +75,9 @@ digits_none done = refl
 digits_first : {v w b : ℕ} {ds : List ℕ} → Digits v w (b ∷ ds) → T (is_digit b)
 digits_first (more d some rest) = d
 
+digits_after : {v w b : ℕ} {ds : List ℕ} → Digits v w (b ∷ ds) → (v ≡ 0 → ⊥) × Digits (with_digit v b) w ds
+digits_after (more d some rest) = (some, rest)
+
 -- every decimal is a digit and what that becomes by the others
 record Read (w : ℕ) : Type 0 where
   first : ℕ
@@ -217,9 +220,10 @@ module _ (bound e : ℕ) where
   opened v w b t other (c ∷ ds, d, l, is) = by (ap (λ (x : List ℕ). get_or x 0 0) is) (ap (drop 1) is) d
     where
       by : b ≡ c → t ≡ ds ++ (e ∷ []) → Digits v w (c ∷ ds) → T (digit_goes_on bound v b) × More (with_digit v b) w t
-      by same rest (more x some d') =
-          let d'' : Digits (with_digit v b) w ds = subst (λ (i : ℕ). Digits (with_digit v i) w ds) (sym same) d' in (
-            join (is_digit b) (not (eqb v 0)) (ltb (with_digit v b) bound) (subst (λ (i : ℕ). T (is_digit i)) (sym same) x) (is_nonzero v some)
+      by same rest d' =
+          let d'' : Digits (with_digit v b) w ds = subst (λ (i : ℕ). Digits (with_digit v i) w ds) (sym same) (digits_after d').1 in (
+            join (is_digit b) (not (eqb v 0)) (ltb (with_digit v b) bound) (subst (λ (i : ℕ). T (is_digit i)) (sym same) (digits_first d'))
+                (is_nonzero v (digits_after d').0)
                 (is_below (with_digit v b) bound (omega (arith, digits_grow d'', l))),
             (ds, d'', l, rest),
           )

@@ -108,11 +108,11 @@ pub some_follows : (ps : List ℕ) → Some (Follows ps)
 some_follows ps = (sample ps, sample_follows ps)
 
 -- of a text that follows a pattern each byte fits
-pub follow_at : (ps a : List ℕ) → Follows ps a → (i : ℕ) → i < length ps → T (fits (get_or ps i 0) (get_or a i 0))
-follow_at [] a f i l = absurd (omega arith)
-follow_at (p ∷ ps) [] f i l = absurd f
-follow_at (p ∷ ps) (b ∷ a) f zero l = f.0
-follow_at (p ∷ ps) (b ∷ a) f (suc i) l = follow_at ps a f.1 i (le_of_suc-le-suc l)
+pub follows_at : (ps a : List ℕ) → Follows ps a → (i : ℕ) → i < length ps → T (fits (get_or ps i 0) (get_or a i 0))
+follows_at [] a f i l = absurd (omega arith)
+follows_at (p ∷ ps) [] f i l = absurd f
+follows_at (p ∷ ps) (b ∷ a) f zero l = f.0
+follows_at (p ∷ ps) (b ∷ a) f (suc i) l = follows_at ps a f.1 i (le_of_suc-le-suc l)
 
 -- a word is followed by itself alone
 unmarked : (q r x y : Bool) → T (not q && r) → cond q x y ≡ y

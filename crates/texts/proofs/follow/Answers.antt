@@ -1,5 +1,4 @@
 use mathlib.Core.Path.{sym, ◌∙◌}
-use borrow.Author.Tests.{not-true, not-false}
 use borrow.Author.Rules.{rules}
 use Rattle.texts.proofs.Steps.{follow_over, follow_not, follow_more, follow_done}
 use Rattle.texts.proofs.follow.Goals as goal
@@ -9,12 +8,12 @@ returns-then-text-here c = sym (c.loop-i.invariant.1 ∙ follow_over _ _ _ _ c.l
 
 pub returns-then-not-fits_pattern : goal.returns-then-not-fits_pattern
 returns-then-not-fits_pattern c =
-    let not-fit = sym c.fits_pattern.ensures ∙ not-true _ c.if-not-fits_pattern.true in
+    let not-fit = sym c.fits_pattern.ensures ∙ c.if-not-fits_pattern.true in
     sym (c.loop-i.invariant.1 ∙ follow_not _ _ _ _ c.loop-i-test.true c.if-text-here.false not-fit)
 
 pub loop-i-preserved : goal.loop-i-preserved
 loop-i-preserved c =
-    let fit = sym c.fits_pattern.ensures ∙ not-false _ c.if-not-fits_pattern.false in
+    let fit = sym c.fits_pattern.ensures ∙ c.if-not-fits_pattern.false in
     let more = follow_more _ _ _ _ c.loop-i-test.true c.if-text-here.false fit in
     (search rules, c.loop-i.invariant.1 ∙ more)
 

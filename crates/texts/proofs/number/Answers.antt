@@ -2,7 +2,7 @@
 use Prim.Native.Nat.{ℕ, ◌+◌, ◌-◌}
 use mathlib.Core.Path.{sym, ap₂, ◌∙◌}
 use native.Mathlib.Omega.{arith}
-use borrow.Author.Tests.{not-true, not-false, lt-ltb, le-ltb}
+use borrow.Author.Tests.{lt-ltb, le-ltb}
 use lib.ListN.{drop}
 use Rattle.ground.specs.Bytes.{at}
 use Rattle.texts.specs.NumberPart.{part_shift, number_rest}
@@ -15,13 +15,13 @@ returns-then-text-at c = sym (number_over _ _ _ _ c.if-text-at.true)
 pub returns-then-not-is_digit : goal.returns-then-not-is_digit
 returns-then-not-is_digit c =
     let a = c.args in
-    let other = sym c.is_digit.ensures ∙ not-true _ c.if-not-is_digit.true in
+    let other = sym c.is_digit.ensures ∙ c.if-not-is_digit.true in
     sym (number_not a.bound a.end a.text.now a.at c.if-text-at.false (rw other))
 
 pub returns-then-limit-value : goal.returns-then-limit-value
 returns-then-limit-value c =
     let a = c.args in
-    let digit = sym c.is_digit.ensures ∙ not-false _ c.if-not-is_digit.false in
+    let digit = sym c.is_digit.ensures ∙ c.if-not-is_digit.false in
     let value = c.wide-value.ensures.0 in
     let limit = c.wide-limit.ensures.0 in
     let high = le-ltb (at a.text.now a.at - 48) a.bound (omega (arith, c.if-limit-value.true, value, limit)) in
@@ -30,7 +30,7 @@ returns-then-limit-value c =
 pub returns : goal.returns
 returns c =
     let a = c.args in
-    let digit = sym c.is_digit.ensures ∙ not-false _ c.if-not-is_digit.false in
+    let digit = sym c.is_digit.ensures ∙ c.if-not-is_digit.false in
     let value = c.wide-value.ensures.0 in
     let limit = c.wide-limit.ensures.0 in
     let low = lt-ltb (at a.text.now a.at - 48) a.bound (omega (arith, c.if-limit-value.false, value, limit)) in

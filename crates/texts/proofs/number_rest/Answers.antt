@@ -1,6 +1,5 @@
 use Prim.Native.Nat.{ℕ, ◌+◌}
 use mathlib.Core.Path.{◌≡◌, sym, ap, ◌∙◌}
-use borrow.Author.Tests.{not-true, not-false}
 use lib.ListN.{drop}
 use Rattle.ground.specs.Bytes.{at}
 use Rattle.texts.specs.NumberPart.{with_digit, part_shift, number_rest}
@@ -16,7 +15,7 @@ returns-then-b-end c =
 pub returns-then-not-goes_on : goal.returns-then-not-goes_on
 returns-then-not-goes_on c =
     let l = c.loop-here in
-    let stops = sym c.goes_on.ensures ∙ not-true _ c.if-not-goes_on.true in
+    let stops = sym c.goes_on.ensures ∙ c.if-not-goes_on.true in
     sym (l.invariant.1 ∙ rest_not _ _ _ _ _ c.loop-here-test.true c.if-b-end.false stops)
 
 pub loop-here-preserved : goal.loop-here-preserved
@@ -24,7 +23,7 @@ loop-here-preserved c =
     let l = c.loop-here in
     let a = c.args in
     let b = at a.text.now l.here in
-    let on = sym c.goes_on.ensures ∙ not-false _ c.if-not-goes_on.false in
+    let on = sym c.goes_on.ensures ∙ c.if-not-goes_on.false in
     let value : c.with_digit-value.result ≡ with_digit l.value b = c.with_digit-value.ensures in
     let here = l.here + 1 in (
       rw value (goes_below a.bound l.value b on),

@@ -2,7 +2,6 @@
 use Prim.Native.Nat.{◌-◌, ◌<◌}
 use mathlib.Core.Path.{◌≡◌}
 use lib.ListN.{length, drop}
-use Rattle.ground.specs.Bytes.{at}
 use Rattle.texts.specs.NumberPart.{part_shift, number_rest}
 use Rattle.texts.proofs.number_rest.Given as goal
 
