@@ -2,7 +2,7 @@
 -- Each fence of the full way was put before an access n that ended a short pair (i, n). The target's last fence settles that pair, and all
 -- fences put are the last one, so none of them stands between i and n: the stretches of the pairs for which fences were put are disjoint.
 -- The pair exceeds the target's default, so any placing that keeps it has a fence in its stretch.
-use Prim.Native.Nat.{ℕ, suc, ◌+◌, ◌≤◌, ◌<◌, max}
+use Prim.Native.Nat.{ℕ, suc, ◌≤◌, ◌<◌, max}
 use mathlib.Core.Path.{◌≡◌, sym, ap, ◌∙◌}
 use mathlib.Core.Bool.{true}
 use mathlib.Core.List.{[], ◌++◌}

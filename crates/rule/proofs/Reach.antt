@@ -1,5 +1,5 @@
 -- How a run comes about, one operation at a time: the one induction on which the theorems about runs rest. Assumes nothing.
-use Prim.Native.Nat.{ℕ, ◌+◌}
+use Prim.Native.Nat.{ℕ}
 use mathlib.Core.Path.{◌≡◌, refl, sym, ap, subst₂, ◌∙◌}
 use mathlib.Core.List.{[], ◌∷◌, ◌++◌, append-nil, append_assoc}
 use Rattle.ground.proofs.Truths.{differ}

@@ -1,5 +1,5 @@
 -- The stepped situation is the situation by pairs, and the run by situations is the run by the rule. Assumes nothing.
-use Prim.Native.Nat.{ℕ, ◌+◌, ◌≤◌, ◌<◌, max, min}
+use Prim.Native.Nat.{ℕ, ◌≤◌, ◌<◌, max, min}
 use mathlib.Core.Path.{◌≡◌, refl, sym, ap, ap₂, fun_ext, ◌∙◌}
 use mathlib.Core.Bool.{Bool, true, false, cond}
 use mathlib.Core.List.{[], ◌∷◌, ◌++◌, append_assoc}

@@ -3,14 +3,14 @@
 -- leaves none short. Otherwise the access is refused. The fresh shim has seen no access, and nothing is inserted at a stream's end."
 -- "Upstream fences are not passed on."
 -- The run has no limit of length: only the calls have.
-use Rattle.std.specs.Prelude.{ℕ, zero, suc, ◌+◌, ◌<◌, ◌≡◌, Bool, true, false, cond, [], ◌∷◌, ◌++◌, length}
+use Rattle.std.specs.Prelude.{ℕ, zero, suc, ◌<◌, ◌≡◌, Bool, true, false, cond, [], ◌∷◌, ◌++◌, length}
 use Rattle.ground.specs.declared.Found.{Found}
 use Rattle.ground.specs.Lowest.{lowest}
 use Rattle.operations.specs.declared.Kind.{Kind}
 use Rattle.operations.specs.declared.Operation.{Operation}
 use Rattle.rule.specs.declared.way.Way.{Way}
 use Rattle.rule.specs.declared.way.Choice.{Choice}
-use Rattle.rule.specs.Stream.{Stream, access, fence, accesses, fences}
+use Rattle.rule.specs.Stream.{Stream, access, fence, accesses}
 use Rattle.rule.specs.Pairs.{Model, settled}
 
 -- a way's number in a call and in an image
