@@ -51,6 +51,7 @@ pub fn block_check(image: &[u8], b: usize) -> usize
 }
 
 // Whether a block is broken off, or has a wrong number or check.
+#[tactic(auto, using(crate::proofs::Blocks::wrong_short, crate::proofs::Blocks::wrong_number, crate::proofs::Blocks::wrong_check))]
 fn is_wrong(image: &[u8], b: usize) -> bool
     ensures { result ≡ wrong image.now b }
 {
