@@ -1,5 +1,5 @@
 -- A text of the form, as Form says it, is one that is put together from the parts that the reader follows. Assumes nothing.
-use Prim.Native.Nat.{ℕ, zero, suc, ◌+◌, ◌≤◌, suc-le-suc}
+use Prim.Native.Nat.{ℕ, zero, suc, ◌≤◌, suc-le-suc}
 use mathlib.Core.Path.{◌≡◌, refl, sym, ap, ap₂, ◌∙◌, subst}
 use mathlib.Core.List.{List, [], ◌∷◌, ◌++◌, append_assoc}
 use mathlib.Core.Logic.{inl, inr}

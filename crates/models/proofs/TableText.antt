@@ -18,7 +18,7 @@ use Rattle.models.specs.Text.{table_part}
 use Rattle.texts.specs.Pattern.{cell_byte, fits, Follows}
 use Rattle.models.specs.inner.Lines.{table_pattern}
 use Rattle.models.specs.Reading.{table_in}
-use Rattle.texts.proofs.Pattern.{length-follows, follow_at}
+use Rattle.texts.proofs.Pattern.{length-follows, follows_at}
 
 either : (a b : Bool) → T (a || b) → T a ⊎ T b
 either true b t = inl tt
@@ -136,7 +136,7 @@ cell_pattern Row.St Column.Cst = refl
 -- the text of the table in a text that follows the pattern
 module _ (a : List ℕ) (f : Follows table_pattern a) where
   byte_fits : (i : ℕ) → i < 20 → T (fits (get_or table_pattern i 0) (get_or a i 0))
-  byte_fits i l = follow_at table_pattern a f i l
+  byte_fits i l = follows_at table_pattern a f i l
 
   cell_read : (r : Row) (c : Column) → letter (cell (table_in a) r c) ≡ get_or a (5 * row_number r + column_number c) 0
   unfolding table_in
