@@ -5,7 +5,6 @@ use mathlib.Core.Logic.{inl, inr, ⊎_elim}
 use mathlib.Core.List.{List}
 use native.Mathlib.Omega.{arith}
 use lib.ListN.{length}
-use Rattle.ground.specs.Bytes.{at}
 use Rattle.operations.specs.Alphabet.{stride}
 use Rattle.mealy.specs.inner.Classes.{Numbering}
 use Rattle.mealy.proofs.Numbers.{order, split_last}

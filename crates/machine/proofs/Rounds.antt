@@ -1,10 +1,9 @@
 -- Rounds of splitting by every letter: how one goes, and when they are over. Assumes nothing.
 use Prim.Native.Nat.{ℕ, ◌+◌, ◌-◌, ◌≤◌, ◌<◌}
 use mathlib.Core.Path.{◌≡◌, ◌∙◌}
-use mathlib.Core.List.{List, ◌++◌, append-nil}
+use mathlib.Core.List.{List}
 use native.Mathlib.Omega.{arith}
-use lib.ListN.{length, take, drop, drop_of_length-le}
-use lib.Seq.{take_all}
+use lib.ListN.{length}
 use Rattle.ground.specs.Bytes.{at}
 use Rattle.mealy.specs.Runs.{Machine}
 use Rattle.mealy.specs.inner.Classes.{Coarse, Round, States}
@@ -13,11 +12,6 @@ use Rattle.machine.specs.inner.Index.{capacity, Scratch}
 use Rattle.machine.specs.inner.Words.{words, tabled, key}
 use Rattle.machine.specs.inner.Refine.{Named, named, crowded, Rounded, rounded, overfull, Refined, refined, overmany, Begun, Crowd}
 use Rattle.machine.proofs.Keys.{key_split}
-
--- a list copied over one of its length
-pub copied : (from to into : List ℕ) → to ≡ take (length from) from ++ drop (length from) into → length from ≡ length into → to ≡ from
-copied from to into e h =
-    e ∙ rw (take_all (length from) from (omega arith), drop_of_length-le into {i = length from} (omega arith), append-nil)
 
 pub record Going (letters : ℕ) (table : List ℕ) (k began : ℕ) (classes finer pairs links : List ℕ) (count a : ℕ) : Type 0 where
   pub begun : Begun (tabled letters table) k classes count
@@ -43,16 +37,13 @@ module _ {letters : ℕ} {table : List ℕ} {k began : ℕ} {classes finer pairs
 
   -- one letter more
   pub going_next : {finer' : List ℕ} {r : ℕ} → Named k (key table classes a) finer' r → r ≤ 255 → length finer' ≡ length finer
-      → {classes' : List ℕ} → classes' ≡ take (length finer') finer' ++ drop (length finer') classes
-      → {pairs' links' : List ℕ} → Scratch pairs' links'
+      → {classes' : List ℕ} → classes' ≡ finer' → {pairs' links' : List ℕ} → Scratch pairs' links'
       → Going letters table k began classes' finer' pairs' links' r (a + 1)
   going_next {finer'} {r} (crowded h p class le numbering by_key) few size copy s = absurd (omega arith)
   going_next {finer'} {r} (named h numbering by_key) few size {classes'} copy s =
-      let whole : length finer' ≡ length classes = omega (arith, x.spare, x.begun.room) in
-      let one : classes' ≡ finer' = copied finer' classes' classes copy whole in
       let split = key_split letters table classes k a x.begun.closed bytes (omega arith) more by_key in
       let coarse : Coarse (tabled letters table) k (at finer') = split_coarse x.begun.closed k a (omega arith) x.begun.coarse split in
-      rw one
+      rw copy
       (record {
         begun =
             record {

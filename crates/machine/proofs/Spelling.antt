@@ -1,5 +1,5 @@
 -- A machine whose outputs are streams: what its runs are by what the fence bytes get, and that they tell states apart. Assumes nothing.
-use Prim.Native.Nat.{ℕ, ◌+◌, ◌<◌}
+use Prim.Native.Nat.{ℕ, ◌<◌}
 use mathlib.Core.Path.{◌≡◌, refl, sym, ◌∙◌, ap}
 use mathlib.Core.List.{List, [], ◌∷◌, ◌++◌, append-nil, append_cancel_left}
 use native.Mathlib.Omega.{arith}

@@ -106,7 +106,7 @@ fn split_all<'a>(
         if 255 < count {
             return count;
         }
-        bytes::copy(finer, classes);
+        classes.copy_from_slice(finer);
         a += 1;
     }
     count
