@@ -2,7 +2,7 @@
 use Rattle.std.proofs.Common.{◌≡◌, ℕ, zero, suc, ◌+◌, ◌-◌, ◌*◌, ◌%◌, ◌^◌, ◌<◌, ◌≤◌, List, [], length, get_or, take, drop, sym, refl, ap, ◌∙◌, not-suc-le-zero, add-one, arith, length-drop, drop_of_length-le, take_all, drop-cons, drop-drop, le-leb}
 use borrow.Author.Tests.{lt-leb}
 use lib.Seq.{take-length}
-use Rattle.bytes.specs.Bytes.{index_of, slice}
+use Rattle.ground.specs.Search.{index_of}
 use Rattle.cases.specs.Fields.{first_of, others_of, from, with_digit, number_in}
 
 -- the bar behind a place, and what stands behind it

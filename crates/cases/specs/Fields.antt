@@ -1,6 +1,6 @@
 -- Fields with a bar behind each, and numbers in decimal.
 use Rattle.std.specs.Prelude.{ℕ, zero, suc, ◌+◌, ◌*◌, ◌%◌, ◌^◌, cond, List, [], ◌∷◌, take, drop, nat_le}
-use Rattle.bytes.specs.Bytes.{index_of}
+use Rattle.ground.specs.Search.{index_of}
 
 -- the first field, and what stands behind its bar
 abbrev pub first_of : List ℕ → List ℕ

@@ -8,7 +8,7 @@ fn next(input: &[u8], at: usize) -> usize
     ensures upper_bound { result ≤ length input.now }
     ensures input_value { drop result input.now ≡ others_of (drop at input.now) }
 {
-    let end = bytes::scan::find(input, at, input.len(), b'|');
+    let end = ground::find(input, at, b'|');
     if end < input.len() { end + 1 } else { end }
 }
 
@@ -41,7 +41,7 @@ pub fn field(input: &[u8], k: usize) -> &[u8]
     ensures { result.now ≡ first_of (from k input.now) }
 {
     let at = start(input, k);
-    let end = bytes::scan::find(input, at, input.len(), b'|');
+    let end = ground::find(input, at, b'|');
     &input[at..end]
 }
 

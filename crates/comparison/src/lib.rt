@@ -9,7 +9,7 @@ use models::model::Reading;
 use tables::table::Table;
 
 // How one model stands to another.
-#[derive(Drop)]
+#[derive(Clone, Copy)]
 pub enum Comparison {
     Equal,
     FirstStronger,
@@ -31,7 +31,7 @@ impl Comparison {
 }
 
 // What a comparison answers.
-#[derive(Drop)]
+#[derive(Clone, Copy)]
 pub enum Compared {
     Is(Comparison),
     Refused(Refusal),

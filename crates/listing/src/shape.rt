@@ -26,7 +26,7 @@ pub(crate) enum Tail {
 fn line_end(text: &[u8]) -> Found
     ensures { LineEnd text.now result }
 {
-    let n = bytes::scan::find(text, 0, text.len(), b'\n');
+    let n = ground::find(text, 0, b'\n');
     if n < text.len() {
         Found::At(n + 1)
     } else {

@@ -9,7 +9,7 @@ fn show_filled(text: &[u8], size: u64) {
     let mut input = [b'l'; 32769];
     let n = cases::at_most(size as usize, &input);
     let begun = cases::at_most(n, text);
-    bytes::copy(&text[..begun], &mut input);
+    input[..begun].copy_from_slice(&text[..begun]);
     if 0 < n {
         input[n - 1] = b'\n';
         show::show(cases::front(&input, n));

@@ -6,7 +6,7 @@ use native.Mathlib.Omega.{arith}
 use borrow.Author.Rules.{rules}
 use lib.ListN.{length}
 use lib.Seq.{take-length}
-use Rattle.bytes.specs.Bytes.{index_of, slice}
+use Rattle.ground.specs.Search.{index_of}
 use Rattle.listing.proofs.Lines.{line_ends, line_endless}
 use Rattle.listing.proofs.shape.line_end.Statement.{statement}
 use Rattle.listing.proofs.shape.line_end.Tie as tie
