@@ -1,0 +1,15 @@
+-- `write_back` meets its contract: the words that were read are the image again. Assumes nothing.
+use Rattle.image.proofs.WrittenBack.{back_refused, back_accepted}
+use Rattle.image.proofs.calls.write_back.Goals as goal
+
+pub returns-in-Refused : goal.returns-in-Refused
+returns-in-Refused c =
+    let a = c.args in
+    back_refused a.image.now (λ i. (c.type_inv.image i).fits) _ _ c.read-reading.ensures _ a.out.now
+    c.in-Refused.is
+
+pub returns-in-Accepted : goal.returns-in-Accepted
+returns-in-Accepted c =
+    let a = c.args in
+    back_accepted a.image.now (λ i. (c.type_inv.image i).fits) _ _ c.read-reading.ensures
+    c.in-Accepted.is _ a.out.now _ _ c.wide-n.ensures.0 c.write.ensures
