@@ -1,6 +1,6 @@
 -- Document 01: "Each model has exactly one text." Reading what was written gives the model again, and writing what was read gives the text
 -- again. Assumes nothing.
-use Prim.Native.Nat.{ℕ, zero, suc, ◌+◌, ◌-◌}
+use Prim.Native.Nat.{ℕ, zero, suc, ◌-◌}
 use mathlib.Core.Path.{◌≡◌, refl, sym, ap, ap₂, ◌∙◌, subst}
 use mathlib.Core.Bool.{Bool, cond}
 use mathlib.Core.List.{List, [], ◌∷◌, ◌++◌, map}
@@ -8,7 +8,7 @@ use native.Mathlib.Omega.{arith}
 use borrow.Author.Tests.{ne_eqb}
 use lib.Dec.{T}
 use lib.ListN.{length, replicate}
-use Rattle.ground.specs.Bytes.{name_byte, bytes}
+use Rattle.ground.specs.Bytes.{name_byte}
 use Rattle.ground.proofs.Truths.{differ}
 use Rattle.answers.specs.declared.Refusal.{Refusal}
 use Rattle.answers.specs.declared.Verdict.{Verdict}

@@ -2,15 +2,12 @@
 -- type. Assumes nothing.
 use Prim.Native.Nat.{ℕ, zero, suc, ◌*◌, ◌≤◌}
 use mathlib.Core.Path.{◌≡◌}
-use mathlib.Core.List.{List, [], ◌∷◌, ◌++◌, map}
+use mathlib.Core.List.{List, [], ◌∷◌, ◌++◌}
 use native.Mathlib.Omega.{arith}
-use borrow.Author.Rules.{length_unmapped}
 use denote.Array.{each}
-use denote.RattleType.{Denots}
 use denote.Shadow.{shadow}
-use denote.Struct.Declared.{shape, fields, row}
-use denote.Struct.Struct.{Struct}
-use lib.ListN.{length, length-append, length-map}
+use denote.Struct.Declared.{row}
+use lib.ListN.{length, length-append}
 use Rattle.ground.specs.Bytes.{bytes}
 use Rattle.printing.proofs.Names.{unfilled_short}
 use Rattle.models.specs.declared.model.Name.{Name}
@@ -59,11 +56,11 @@ Sixteen : Name → Type 0
 Sixteen n = length n.bytes ≡ 16
 
 names_sixteen : (names : List Name) (us : List Val)
-    → shadow (each (Denots (fields name.the_type)) (Struct (shape name.the_type)).own_val (map (name.the_type).to names) us) → Each Sixteen names
+    → shadow (each Name (row name.the_type).own_val names us) → Each Sixteen names
 unfolding Sixteen
 names_sixteen [] us h = tt
 names_sixteen (n ∷ names) [] h = absurd h
-names_sixteen (n ∷ names) (u ∷ us) h = (length_unmapped ℕ n.bytes 16 h.0.1.1.0.1.0.1, names_sixteen names us h.1)
+names_sixteen (n ∷ names) (u ∷ us) h = (h.0.1.1.0.1.0.1, names_sixteen names us h.1)
 
 fences_few : (k : ℕ) (names : List Name) (tables : List ℕ) → length (fences_of k names tables) ≤ length names
 unfolding fences_of
@@ -80,13 +77,13 @@ fences_small (suc k) [] tables h = tt
 fences_small (suc k) (n ∷ names) [] h = tt
 fences_small (suc k) (n ∷ names) (t ∷ tables) h = (omega (arith, unfilled_short n.bytes, h.0), fences_small k names tables h.1)
 
-pub held_short : (m : Model) (vs : List Val) → shadow ((row model.the_type).own m vs) → length (text_of (described m)) ≤ 739
+pub held_short : (m : Model) (vs : List Val) → shadow ((row model.the_type).own_val m vs) → length (text_of (described m)) ≤ 739
 held_short m vs h =
     let name = h.1.1.1.1.1.0 in
     let names = h.1.1.1.1.1.1.0 in
-    let many : length m.names ≡ 16 = simp length-map at names.1.0.1 in
+    let many : length m.names ≡ 16 = names.1.0.1 in
     short (described m) (record {
-      name = omega (arith, unfilled_short m.name.bytes, length_unmapped ℕ m.name.bytes 16 (name).1.1.0.1.0.1);
+      name = omega (arith, unfilled_short m.name.bytes, (name).1.1.0.1.0.1);
       few = omega (arith, fences_few m.fences m.names m.tables, many);
       each_name = fences_small m.fences m.names m.tables (names_sixteen m.names names.0 names.1.1);
     })
