@@ -27,8 +27,8 @@ MANDIR ?= $(PREFIX)/share/man
 OUT = target/command/$(PROCESSOR)
 SOURCES = host/shim.c host/command/*.c
 HEADERS = include/shim.h host/command/*.h
-# Folders count too, so that a file that is gone is noticed.
-CRATES != find crates crates.txt -name '.*' -prune -o -print
+# Folders count too, so that a file that is gone is noticed; but not crates/NAME itself, where rt keeps its work.
+CRATES != find crates/*/src crates/*/specs crates/*/proofs crates.txt -name '.*' -prune -o -print
 VERSION != sed -n 's/^.define SHIM_VERSION "\(.*\)"$$/\1/p' include/shim.h
 MODEL = host/model/target/release/shim-model
 

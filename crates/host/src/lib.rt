@@ -1,5 +1,6 @@
 // The calls for the C host: numbers as themselves, a region as a pointer and a length, and the answer's five numbers through a pointer that
-// every call sets whole. Each is one line over a call of a crate below.
+// every call sets whole. Each is one line over a call of a crate below. The static library that C links is `host_c`, which exports each under
+// its name.
 #![tactic(auto)]
 
 ghost use Rattle.std.specs.Prelude.{◌≡◌};
