@@ -1,22 +1,17 @@
 -- Loops over fields and over digits: what is left of the input decides. Assumes nothing.
 use Rattle.std.proofs.Common.{◌≡◌, ℕ, zero, suc, ◌+◌, ◌-◌, ◌*◌, ◌%◌, ◌^◌, ◌<◌, ◌≤◌, List, [], length, get_or, take, drop, sym, refl, ap, ◌∙◌, not-suc-le-zero, add-one, arith, length-drop, drop_of_length-le, take_all, drop-cons, drop-drop, le-leb}
 use borrow.Author.Tests.{lt-leb}
-use lib.Seq.{take-length}
 use Rattle.ground.specs.Search.{index_of}
 use Rattle.cases.specs.Fields.{first_of, others_of, from, with_digit, number_in}
 
 -- the bar behind a place, and what stands behind it
-found : (l : List ℕ) (at end : ℕ) → end ≡ at + index_of 124 (slice at (length l) l) → end ≡ at + index_of 124 (drop at l)
-unfolding slice
-found l at end e = e ∙ ap (λ (s : List ℕ). at + index_of 124 (drop at s)) (take-length l)
-
-pub next_one : (l : List ℕ) (at end : ℕ) → end ≡ at + index_of 124 (slice at (length l) l) → drop (end + 1) l ≡ others_of (drop at l)
+pub next_one : (l : List ℕ) (at end : ℕ) → end ≡ at + index_of 124 (drop at l) → drop (end + 1) l ≡ others_of (drop at l)
 next_one l at end e =
     let i : ℕ = index_of 124 (drop at l) in
-    let same : end + 1 ≡ at + suc i = omega (arith, found l at end e) in
+    let same : end + 1 ≡ at + suc i = omega (arith, e) in
     ap (λ (k : ℕ). drop k l) same ∙ sym (drop-drop (suc i) at l)
 
-pub next_none : (l : List ℕ) (at end : ℕ) → end ≡ at + index_of 124 (slice at (length l) l) → length l ≤ end → drop end l ≡ others_of (drop at l)
+pub next_none : (l : List ℕ) (at end : ℕ) → end ≡ at + index_of 124 (drop at l) → length l ≤ end → drop end l ≡ others_of (drop at l)
 next_none l at end e h =
     drop_of_length-le l h ∙ sym (drop_of_length-le l {i = end + 1} (omega (arith, h))) ∙ next_one l at end e
 
@@ -45,10 +40,10 @@ fields_end left s all h so = let none : 0 ≡ left = omega (arith, h) in ap (λ 
 pub all_from : (at : ℕ) (l rest : List ℕ) → drop at l ≡ rest → take (length l - at) (drop at l) ≡ rest
 all_from at l rest so = take_all (length l - at) (drop at l) (omega (arith, length-drop at l)) ∙ so
 
-pub one_field : (at end : ℕ) (l rest : List ℕ) → end ≡ at + index_of 124 (slice at (length l) l) → drop at l ≡ rest
+pub one_field : (at end : ℕ) (l rest : List ℕ) → end ≡ at + index_of 124 (drop at l) → drop at l ≡ rest
     → take (end - at) (drop at l) ≡ first_of rest
 one_field at end l rest e so =
-    let as_many : end - at ≡ index_of 124 (drop at l) = omega (arith, found l at end e) in
+    let as_many : end - at ≡ index_of 124 (drop at l) = omega (arith, e) in
     ap (λ (n : ℕ). take n (drop at l)) as_many ∙ ap first_of so
 
 -- the loop over digits, and one of them

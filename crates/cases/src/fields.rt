@@ -3,6 +3,7 @@ ghost use Rattle.std.specs.Prelude.{◌≡◌, ◌≤◌, length, drop};
 ghost use Rattle.cases.specs.Fields.{first_of, others_of, from, number_in, with_digit};
 
 // Where the field behind this one begins.
+#[tactic(auto, using(crate::proofs::Bars::next_one, crate::proofs::Bars::next_none))]
 fn next(input: &[u8], at: usize) -> usize
     requires { at ≤ length input.now }
     ensures upper_bound { result ≤ length input.now }
