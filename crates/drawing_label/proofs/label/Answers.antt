@@ -2,7 +2,6 @@
 use Prim.Native.Nat.{ℕ, zero-le}
 use mathlib.Core.Path.{◌≡◌, refl, sym, ap, ap₂, subst, ◌∙◌}
 use mathlib.Core.List.{List}
-use borrow.Author.Rules.{rules}
 use lib.ListN.{replicate}
 use Rattle.texts.specs.Telling.{took, Finds}
 use Rattle.printing.specs.Name.{unfilled}
@@ -11,8 +10,7 @@ use Rattle.drawing_label.specs.declared.PlacesRead.{PlacesRead}
 use Rattle.drawing_label.specs.Label.{Label, LabelPart, name_from, field, places_told, places_taken, Fielded}
 use Rattle.drawing_label.proofs.Fields.{unfilled_from}
 use Rattle.drawing_label.proofs.Labels.{told_formed}
-use Rattle.drawing_label.proofs.label.Statement.{statement}
-use Rattle.drawing_label.proofs.label.Tie as tie
+use Rattle.drawing_label.proofs.label.Goals as goal
 
 -- the label by its names' places, and by its names in their fields
 with_names : Places → List ℕ → List ℕ → Label
@@ -32,57 +30,27 @@ no_name : Fielded (replicate 16 0)
 unfolding unfilled
 no_name = refl
 
-label-places-requires : tie.Need-label-places-requires
-label-places-requires c κs = search rules
-
-enum-known-place : tie.Need-enum-known-place
-enum-known-place c = search rules
-
-enum-known-l : tie.Need-enum-known-l
-enum-known-l c = search rules
-
-name-field-requires : tie.Need-name-field-requires
-name-field-requires c κs = search rules
-
-name-field-requires-2 : tie.Need-name-field-requires-2
-name-field-requires-2 c κs = search rules
-
-returns : tie.Need-returns
-returns c =
-    let places = c.before.before.before in
-    let t : List ℕ = places.before.before.args.text.now in (
-      subst (λ (r : PlacesRead). Finds LabelPart t 0 (places_taken t r)) c.before.place.given.1 places.label-places.ensures,
+pub returns-in-Stuck : goal.returns-in-Stuck
+returns-in-Stuck c =
+    let t : List ℕ = c.args.text.now in (
+      subst (λ (r : PlacesRead). Finds LabelPart t 0 (places_taken t r)) c.in-Stuck.is c.label_places.ensures,
       record { way = zero-le; ups = zero-le; targets = zero-le; upstream = no_name; target = no_name; bare = refl },
     )
 
-returns-2 : tie.Need-returns-2
+pub returns-in-Read : goal.returns-in-Read
 unfolding with_names
-returns-2 c =
-    let read = c.before.before.before in
-    let places = read.before.before in
-    let l = read.l.given.0.0 in
-    let t : List ℕ = places.before.before.args.text.now in
-    let told = subst (λ (r : PlacesRead). Finds LabelPart t 0 (places_taken t r)) read.l.given.1 places.label-places.ensures in
+returns-in-Read c =
+    let l = c.in-Read.l in
+    let t : List ℕ = c.args.text.now in
+    let told = subst (λ (r : PlacesRead). Finds LabelPart t 0 (places_taken t r)) c.in-Read.is c.label_places.ensures in
     let formed = told_formed told in (
-      subst (λ (x : Label). Finds LabelPart t 0 (took l.next x)) (names-told t l c.before.name_field.ensures c.name-field2.ensures) told,
+      subst (λ (x : Label). Finds LabelPart t 0 (took l.next x)) (names-told t l c.name_field-upstream.ensures c.name_field-target.ensures) told,
       record {
         way = formed.way;
         ups = formed.ups;
         targets = formed.targets;
-        upstream = fielded t l.upstream c.before.name_field.ensures;
-        target = fielded t l.target c.name-field2.ensures;
+        upstream = fielded t l.upstream c.name_field-upstream.ensures;
+        target = fielded t l.target c.name_field-target.ensures;
         bare = tt;
       },
     )
-
-pub label-spec : {M : Type 1} → statement M
-label-spec =
-    tie.close
-    (tie.spec
-    label-places-requires
-    enum-known-place
-    enum-known-l
-    name-field-requires
-    name-field-requires-2
-    returns
-    returns-2)

@@ -1,0 +1,23 @@
+-- `from_upstream` meets its contract: the name decides, and then the rest. Assumes nothing.
+use Prim.Native.Nat.{ℕ}
+use mathlib.Core.List.{List}
+use Rattle.texts.specs.Telling.{Named}
+use Rattle.texts.proofs.Telling.{then_goes, then_stops}
+use Rattle.drawing_label.specs.Label.{FromTarget}
+use Rattle.drawing_label.proofs.Words.{name_found, name_stuck}
+use Rattle.drawing_label.proofs.Labels.{some_target, unique_blank}
+use Rattle.drawing_label.proofs.from_upstream.Goals as goal
+
+pub returns-in-Stuck : goal.returns-in-Stuck
+returns-in-Stuck c =
+    let a = c.args in
+    let t : List ℕ = a.text.now in
+    then_stops (Named 32) FromTarget t a.at some_target
+    (name_stuck 32 (λ no. no) t a.at c.name.ensures c.in-Stuck.is)
+
+pub returns-in-Next : goal.returns-in-Next
+returns-in-Next c =
+    let a = c.args in
+    let t : List ℕ = a.text.now in
+    then_goes (Named 32) FromTarget t a.at unique_blank
+    (name_found 32 (λ no. no) t a.at c.name.ensures c.in-Next.is) c.from_target.ensures
