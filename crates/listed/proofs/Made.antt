@@ -1,6 +1,6 @@
 -- What is listed once the machine is made: each outcome is what the rule's machine comes to, and a machine that is made is within the limits.
 -- Assumes nothing.
-use Prim.Native.Nat.{ℕ, ◌+◌, ◌*◌, ◌%◌, ◌/◌, ◌<◌}
+use Prim.Native.Nat.{ℕ, ◌+◌, ◌*◌, ◌%◌, ◌/◌, ◌^◌, ◌≤◌, ◌<◌}
 use mathlib.Core.Path.{◌≡◌, sym, ap, ap₂, subst, ◌∙◌}
 use mathlib.Core.Bool.{Bool, true, false, cond}
 use mathlib.Core.List.{List}
@@ -11,10 +11,13 @@ use Rattle.ground.specs.Bytes.{at}
 use Rattle.answers.specs.declared.Refusal.{Refusal}
 use Rattle.answers.specs.declared.Answer.{Answer}
 use Rattle.answers.specs.declared.Verdict.{Verdict}
+use Rattle.answers.specs.Answer.{number_of, place_of}
 use Rattle.answers.specs.Given.{gives, refuses, Delivers, Answers}
 use Rattle.operations.specs.Alphabet.{letters_with, stride}
 use Rattle.rule.specs.declared.way.Way.{Way}
+use Rattle.printing.specs.Putting.{Put, Fronts}
 use Rattle.printing.proofs.Names.{unfilled_short}
+use Rattle.printing.proofs.Putting.{put_fronts}
 use Rattle.shims.specs.declared.WayRead.{WayRead}
 use Rattle.shims.specs.declared.Models.{Models}
 use Rattle.shims.specs.declared.Opening.{Opening}
@@ -31,10 +34,11 @@ use Rattle.machine.specs.Generated as machine
 use Rattle.machine.specs.Generated.{Unmade, Built}
 use Rattle.making.specs.Made.{MachineMade}
 use Rattle.making.proofs.Read.{made_read}
-use Rattle.listed.specs.Printed.{next_state, listing}
+use Rattle.listed.specs.Printed.{next_state, listing, refused_at, refusal_line}
 use Rattle.listed.specs.Parts.{rule_of, listing_of, listed_text, MachineListed, crowded, overfull, made}
 use Rattle.listed.specs.inner.Limits.{Listable, Sixteen, RunOutput, Limited}
 use Rattle.listed.specs.inner.Making.{made_listing, made_given, MadeListable}
+use Rattle.listed.proofs.Longest.{listing-length, refused-length}
 
 module _ (m : Models) (sixteen : Sixteen m) (output : List ℕ) (fences : ℕ) (ran : RunOutput output fences)
     (rows rows' : List ℕ) (size : length rows ≡ 5100) where
@@ -114,3 +118,23 @@ listable_limited m x rows output fences u t l = record {
   short_output = l.short_output;
   few_fences = l.few_fences;
 }
+
+-- so it stands in front of a buffer that holds 67,261 bytes
+pub listing_fronts : (m : Models) (x : Machine) (rows output : List ℕ) (fences : ℕ) {before after : List ℕ} {n : ℕ}
+    → length m.upstream.name.bytes ≡ 16 → length m.target.name.bytes ≡ 16 → Listable x rows output fences
+    → Put before after 0 n (listing (made_listing m x rows output fences)) → 67261 ≤ length before
+    → Fronts after n (listing (made_listing m x rows output fences))
+listing_fronts m x rows output fences u t l p h =
+    put_fronts p (omega (arith, listing-length _ (listable_limited m x rows output fences u t l)))
+
+-- and the line of a refusal in front of one that holds 53
+pub refused_fronts : (why : Refusal) {number place : ℕ} {before after : List ℕ} {n : ℕ} → number < 2 ^ 64 → place < 2 ^ 64
+    → number ≡ number_of why → place ≡ place_of why → Put before after 0 n (refused_at number place) → 53 ≤ length before
+    → Fronts after n (refusal_line why)
+refused_fronts why {number} {place} small near is at p h =
+    let line = put_fronts p (omega (arith, refused-length number place (omega arith) (omega arith))) in
+    record {
+      inside = line.inside;
+      count = line.count;
+      bytes = line.bytes ∙ ap₂ refused_at is at;
+    }

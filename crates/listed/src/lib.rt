@@ -97,7 +97,7 @@ pub fn list_parts<'a>(
     out: &mut [u8],
 ) -> Answer
     ensures { Answers (PartsListed (record {
-      upstream = upstream.entry.now;
+      upstream = upstream.now;
       target = target.now;
       way = way;
       stream = stream.now;

@@ -1,0 +1,7 @@
+-- `put_number_line` meets its contract: its parts one behind another. Assumes nothing.
+use Rattle.printing.proofs.Putting.{prints_put, put_then}
+use Rattle.listed.proofs.print.put_number_line.Goals as goal
+
+pub returns : goal.returns
+returns c =
+    put_then (prints_put c.put-digits_at.ensures) (put_then (prints_put c.put_decimal-end.ensures) (prints_put c.put.ensures))
