@@ -1,0 +1,10 @@
+-- `refused_label` meets its contract: the middle decides, and then the rest. Assumes nothing.
+use Rattle.drawing_edges.proofs.EdgeParts.{refused_label_stops, refused_label_goes}
+use borrow.Author.Rules.{rules}
+use Rattle.drawing_edges.proofs.refused_label.Goals as goal
+
+pub returns-in-Stuck : goal.returns-in-Stuck
+returns-in-Stuck c = search (refused_label_stops, rules)
+
+pub returns-in-Next : goal.returns-in-Next
+returns-in-Next c = search (refused_label_goes, rules)
