@@ -1,0 +1,18 @@
+-- `list_tail` meets its contract: what stands behind the texts says whether there are parts. Assumes nothing.
+use mathlib.Core.Path.{ap, subst}
+use Rattle.listing.specs.Shape.{with_ending}
+use Rattle.listing.specs.inner.Finding.{EndingAt}
+use Rattle.listing.proofs.Stages.{shape_some, shape_none}
+use Rattle.listing.proofs.list_tail.Goals as goal
+
+pub returns-in-Other : goal.returns-in-Other
+returns-in-Other c =
+    let a = c.args in
+    let none = subst (EndingAt a.tail.now) c.in-Other.is c.tail_of-found.ensures in
+    shape_none a.out.now (ap (with_ending a.upstream.now a.target.now) none)
+
+pub returns-in-Of : goal.returns-in-Of
+returns-in-Of c =
+    let a = c.args in
+    let whole = (subst (EndingAt a.tail.now) c.in-Of.is c.tail_of-found.ensures).whole in
+    shape_some (ap (with_ending a.upstream.now a.target.now) whole) c.list_parts.ensures
