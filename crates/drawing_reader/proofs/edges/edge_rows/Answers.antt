@@ -1,0 +1,28 @@
+use native.Mathlib.Omega.{arith}
+use borrow.Author.Rules.{rules}
+use Rattle.drawing_reader.proofs.EdgeRows.{rows_none, rows_done, rows_stop, rows_more}
+use Rattle.drawing_reader.proofs.edges.edge_rows.Goals as goal
+
+pub loop-state-init : goal.loop-state-init
+loop-state-init c = (search rules, rows_none _ _ _ _)
+
+pub returns-in-Stuck : goal.returns-in-Stuck
+returns-in-Stuck c =
+    let inv = c.loop-state.invariant in
+    rows_stop _ c.requires.0 _ _ _ _ _ _ inv.1
+    (omega (arith, inv.0, c.loop-state-test.true)) _ _ c.edge_row.ensures
+    c.in-Stuck.is
+
+pub loop-state-preserved : goal.loop-state-preserved
+loop-state-preserved c =
+    let inv = c.loop-state.invariant in (
+      inv.0,
+      rows_more _ c.requires.0 _ _ _ _ _ _ inv.1
+          (omega (arith, inv.0, c.loop-state-test.true)) _ _ c.edge_row.ensures
+          c.in-Next.is,
+    )
+
+pub returns : goal.returns
+returns c =
+    let inv = c.loop-state.invariant in
+    rows_done _ c.requires.0 _ _ _ _ _ _ inv.1 (omega (arith, inv.0, c.loop-state-test.false))
