@@ -17,7 +17,7 @@ use Rattle.operations.specs.declared.Operation.{Operation}
 use Rattle.operations.specs.Operation.{byte_of, fence_bytes}
 use Rattle.operations.proofs.Bytes.{access_read, fence_read}
 use Rattle.rule.specs.declared.way.Way.{Way}
-use Rattle.rule.specs.Stream.{Stream, count, kind_at, HasFence, between}
+use Rattle.rule.specs.Stream.{Stream, kind_at, HasFence, between}
 use Rattle.rule.specs.Pairs.{Model, fence_table, is_row, is_column, asked, offered}
 use Rattle.rule.specs.Rule.{done, run, every_fence}
 use Rattle.rule.proofs.Theorems.{is_a_placing, every_pair_kept, by_default_or_one_fence, fence_exactly_when, nothing_at_the_end, fewest_fences}

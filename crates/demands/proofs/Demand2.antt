@@ -14,7 +14,7 @@ use Rattle.answers.specs.declared.Answer.{Answer}
 use Rattle.answers.specs.declared.Verdict.{Verdict}
 use Rattle.answers.specs.Given.{gives, unless_refused, Delivers, Answers}
 use Rattle.operations.specs.Operation.{fence_bytes}
-use Rattle.rule.specs.Stream.{Stream, fences}
+use Rattle.rule.specs.Stream.{Stream}
 use Rattle.rule.specs.Rule.{way_number, done, onward, run}
 use Rattle.shims.specs.declared.Models.{Models}
 use Rattle.runs.specs.Call.{outcome}
