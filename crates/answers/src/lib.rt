@@ -63,7 +63,7 @@ impl Refusal {
 }
 
 // What is said of a text or an image that is read: accepted, or refused.
-#[derive(Drop)]
+#[derive(Clone, Copy)]
 pub enum Verdict {
     Accepted,
     Refused(Refusal),

@@ -27,7 +27,7 @@ enum PlacesRead {
 }
 
 // A label with its names filled up with zeros, and the place behind it; where the text departs from a label the rest holds nothing.
-#[derive(Drop)]
+#[derive(Clone, Copy)]
 pub struct LabelRead {
     pub step: Step,
     pub upstream: [u8; 16],

@@ -6,7 +6,7 @@ ghost use Rattle.ground.specs.Bytes.{at, in_range, name_byte, same_bytes};
 ghost use Rattle.ground.specs.Search.{index_of};
 
 // The first of some places, if there is one.
-#[derive(Drop)]
+#[derive(Clone, Copy)]
 pub enum Found {
     At(usize),
     Nowhere,

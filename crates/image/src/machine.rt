@@ -14,7 +14,7 @@ pub struct Header {
 }
 
 // Where the image is refused the header holds nothing.
-#[derive(Drop)]
+#[derive(Clone, Copy)]
 pub struct Reading {
     pub verdict: Verdict,
     pub header: Header,

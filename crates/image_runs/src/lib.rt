@@ -17,7 +17,7 @@ use operations::{Byte, Kind, Operation, alphabet};
 const LIMIT: usize = 4096;
 
 // Why a run stops.
-#[derive(Drop)]
+#[derive(Clone, Copy)]
 pub enum Stop {
     NoOperation,
     NoSuchFence,
@@ -25,14 +25,14 @@ pub enum Stop {
 }
 
 // An upstream fence passed over, an access put out alone, or an access behind a fence, whose byte comes first; and the next state.
-#[derive(Drop)]
+#[derive(Clone, Copy)]
 pub enum Move {
     Passed(usize),
     Plain(usize),
     Fenced(u8, usize),
 }
 
-#[derive(Drop)]
+#[derive(Clone, Copy)]
 pub enum Step {
     Taken(Move),
     Stopped(Stop),

@@ -3,7 +3,7 @@ use answers::Refusal;
 
 // A machine's numbers. Its rows stand in an array of their own: a word for each state and letter, at a stride of 20, which is 256 times the fence
 // byte (a target fence's number, 255 none, 254 refused) and the next state.
-#[derive(Drop)]
+#[derive(Clone, Copy)]
 pub struct Machine {
     // 0 sparing, 1 full
     pub way: u64,
@@ -14,7 +14,7 @@ pub struct Machine {
     pub targets: usize,
 }
 
-#[derive(Drop)]
+#[derive(Clone, Copy)]
 pub enum Outcome {
     Made(Machine),
     // More than 4,096 situations, else more than 255 states, else rows that do not fit.

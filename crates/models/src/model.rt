@@ -19,7 +19,7 @@ pub struct Model {
 }
 
 // An enum may hold no array, so the model stands beside the verdict. Where the text is refused it holds nothing.
-#[derive(Drop)]
+#[derive(Clone, Copy)]
 pub struct Reading {
     pub verdict: Verdict,
     pub model: Model,

@@ -16,14 +16,14 @@ pub enum Kind {
 }
 
 // An access, or a fence by its number.
-#[derive(Drop)]
+#[derive(Clone, Copy)]
 pub enum Operation {
     Access(Kind),
     Fence(usize),
 }
 
 // What a byte is: an operation, or nothing that a stream may hold.
-#[derive(Drop)]
+#[derive(Clone, Copy)]
 pub enum Byte {
     Is(Operation),
     Nothing,

@@ -5,7 +5,7 @@ ghost use Rattle.std.specs.Prelude.{◌^◌, ◌<◌, ◌≤◌, ◌≡◌};
 ghost use Rattle.places.specs.Layout.{limit, blocks_for, header_place, entry_place, content_place, stands_at, entry_start};
 
 // A name's byte is counted from the name's first; an access or an upstream fence is its number.
-#[derive(Drop)]
+#[derive(Clone, Copy)]
 pub enum Place {
     Number,
     Form,

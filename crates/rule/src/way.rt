@@ -26,7 +26,7 @@ pub struct Shim {
 }
 
 // What a way puts before an access.
-#[derive(Drop)]
+#[derive(Clone, Copy)]
 pub enum Choice {
     Nothing,
     Fence(usize),
@@ -34,7 +34,7 @@ pub enum Choice {
 }
 
 // An access taken, with nothing or with a fence before it, and the situation after it; or refused.
-#[derive(Drop)]
+#[derive(Clone, Copy)]
 pub enum Step {
     Plain(Situation),
     Fenced(usize, Situation),

@@ -12,7 +12,7 @@ use rule::way::{Shim, Way};
 use tables::table::Table;
 
 // What a way's number names.
-#[derive(Drop)]
+#[derive(Clone, Copy)]
 pub enum WayRead {
     Is(Way),
     Nothing,
@@ -27,7 +27,7 @@ pub struct Models {
 }
 
 // An enum may hold no array, so the models stand beside the verdict. Where the call is refused they hold nothing.
-#[derive(Drop)]
+#[derive(Clone, Copy)]
 pub struct Opening {
     pub verdict: Verdict,
     pub models: Models,

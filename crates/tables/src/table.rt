@@ -19,7 +19,7 @@ pub enum Row {
 }
 
 // The later access of a pair, by its kind.
-#[derive(Drop)]
+#[derive(Clone, Copy)]
 pub enum Column {
     Ld,
     Cld,

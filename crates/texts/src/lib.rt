@@ -14,7 +14,7 @@ pub enum Step {
 }
 
 // The same of a part that tells a number: the place after it with the number.
-#[derive(Drop)]
+#[derive(Clone, Copy)]
 pub enum Part {
     Next(usize, usize),
     Stuck(usize),
