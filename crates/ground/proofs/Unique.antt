@@ -23,6 +23,6 @@ pub same_one : (first second : List ℕ) {r r' : Bool} → r ≡ same_bytes firs
 same_one first second p q = p ∙ sym q
 
 pub find_one : (bytes : List ℕ) (from byte : ℕ) {r r' : ℕ}
-    → ((from ≤ r) × (r ≤ length bytes)) × (r ≡ from + index_of byte (drop from bytes))
-    → ((from ≤ r') × (r' ≤ length bytes)) × (r' ≡ from + index_of byte (drop from bytes)) → r ≡ r'
+    → ((from ≤ r) × (from ≤ length bytes → r ≤ length bytes)) × (r ≡ from + index_of byte (drop from bytes))
+    → ((from ≤ r') × (from ≤ length bytes → r' ≤ length bytes)) × (r' ≡ from + index_of byte (drop from bytes)) → r ≡ r'
 find_one bytes from byte p q = p.1 ∙ sym q.1

@@ -76,11 +76,10 @@ pub fn same<'a>(first: &'a [u8], second: &'a [u8]) -> bool
     true
 }
 
-// The first place of a byte, from one on; the end where there is none.
+// The first place of a byte, from one on; the end where there is none, and that place itself where it is past the end.
 #[tactic(auto, using(crate::proofs::Search::found_here, crate::proofs::Search::not_here, crate::proofs::Search::none_left))]
 pub fn find(bytes: &[u8], from: usize, byte: u8) -> usize
-    requires { from ≤ length bytes.now }
-    ensures in_bounds { (from ≤ result) × (result ≤ length bytes.now) }
+    ensures in_bounds { (from ≤ result) × (from ≤ length bytes.now → result ≤ length bytes.now) }
     ensures value { result ≡ from + index_of byte (drop from bytes.now) }
 {
     let mut i = from;

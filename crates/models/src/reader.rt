@@ -160,6 +160,7 @@ fn lines(text: &[u8], start: Progress, at: usize) -> Reading
 }
 
 // What a text says, or why it is refused.
+#[tactic(auto, using(crate::proofs::Steps::reading_over, crate::proofs::Words::meets))]
 pub fn read(text: &[u8]) -> Reading
     ensures equation { result ≡ reading text.now }
     ensures words { Told text.now result }

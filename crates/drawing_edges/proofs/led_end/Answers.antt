@@ -7,7 +7,7 @@ use Rattle.drawing_edges.proofs.led_end.Goals as goal
 pub led_label-requires : goal.led_label-requires
 led_label-requires c =
     let a = c.args in
-    let small = next_small a.states 0 0 (omega arith) a.text.now a.at c.number.ensures c.in-Next.is in
+    let small = next_small _ 0 0 (omega arith) a.text.now a.at c.number.ensures c.in-Next.is in
     (omega arith, omega (arith, small))
 
 pub returns-in-Stuck : goal.returns-in-Stuck

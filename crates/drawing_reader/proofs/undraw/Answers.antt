@@ -7,7 +7,7 @@ use Rattle.drawing_reader.proofs.Reading.{read_stuck, read_passed, read_whole}
 use Rattle.drawing_reader.proofs.undraw.Goals as goal
 
 pub returns-then-text-gt-LIMIT : goal.returns-then-text-gt-LIMIT
-returns-then-text-gt-LIMIT c = record { given = refuses _; right = over c.if-text-gt-LIMIT.true; delivered = delivers_refusal _ }
+returns-then-text-gt-LIMIT c = record { given = refuses _; right = over (search rules); delivered = delivers_refusal _ }
 
 pub returns-then-end-text : goal.returns-then-end-text
 returns-then-end-text c =

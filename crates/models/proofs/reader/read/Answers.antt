@@ -5,14 +5,9 @@ use Rattle.models.specs.declared.model.Model.{Model}
 use Rattle.models.specs.Reading.{name_in, table_in, lines_from, after_head}
 use Rattle.models.specs.Told.{bare}
 use Rattle.models.proofs.Words.{meets}
-use Rattle.models.proofs.Steps.{line_stuck, line_next, reading_over, reading_within, head_name}
+use Rattle.models.proofs.Steps.{line_stuck, line_next, reading_within, head_name}
+use borrow.Author.Rules.{rules}
 use Rattle.models.proofs.reader.read.Goals as goal
-
-pub returns-then-text-gt1024 : goal.returns-then-text-gt1024
-returns-then-text-gt1024 c =
-    let t = c.args.text.now in
-    let both = meets t (c.refuse.ensures ∙ sym (reading_over t c.if-text-gt1024.true)) in
-    record { equation = both.0; words = both.1 }
 
 pub overflow_sub-line : goal.overflow_sub-line
 overflow_sub-line c =
@@ -29,7 +24,7 @@ pub returns-in-Stuck : goal.returns-in-Stuck
 returns-in-Stuck c =
     let t = c.args.text.now in
     let stuck = line_stuck (after_head t) c.head_line.ensures c.in-Stuck.is c.refuse-in-Stuck.ensures in
-    let both = meets t (stuck ∙ sym (reading_within t c.if-text-gt1024.false)) in
+    let both = meets t (stuck ∙ sym (reading_within t (search rules))) in
     record { equation = both.0; words = both.1 }
 
 pub returns-in-Read : goal.returns-in-Read
@@ -42,5 +37,5 @@ returns-in-Read c =
     let is : c.lines.result ≡ after_head t line =
     c.lines.ensures
     ∙ ap (λ (m : Model). lines_from 16 t (record { model = m; repeat = 0 }) line.next) (c.bare_model-model.ensures ∙ ap₂ bare name ppo) in
-    let both = meets t (line_next (after_head t) c.head_line.ensures c.in-Read.is is ∙ sym (reading_within t c.if-text-gt1024.false)) in
+    let both = meets t (line_next (after_head t) c.head_line.ensures c.in-Read.is is ∙ sym (reading_within t (search rules))) in
     record { equation = both.0; words = both.1 }

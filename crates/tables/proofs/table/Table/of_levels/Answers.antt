@@ -1,7 +1,6 @@
 use Prim.Native.Nat.{ℕ}
 use mathlib.Core.Path.{◌≡◌, ap, ◌∙◌}
 use native.Mathlib.Omega.{arith}
-use native.Mathlib.Nat.{mod-lt}
 use borrow.Author.Rules.{rules}
 use lib.ListN.{get_or}
 use Rattle.tables.proofs.Packed.{packed_below}
@@ -10,7 +9,7 @@ use Rattle.tables.specs.Cells.{packed}
 use Rattle.tables.proofs.table.Table.of_levels.Goals as goal
 
 pub with_digit-t-requires : goal.with_digit-t-requires
-with_digit-t-requires c = (search rules, rw c.loop-i.invariant.2 (packed_below _ c.loop-i.i), mod-lt _ (omega arith))
+with_digit-t-requires c = (search rules, rw c.loop-i.invariant.2 (packed_below _ c.loop-i.i), omega arith)
 
 pub returns : goal.returns
 returns c =
