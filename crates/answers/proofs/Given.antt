@@ -1,13 +1,14 @@
 -- Laws of what a call has to give: a refusal is delivered by leaving the buffer alone, and what is delivered is determined. Assumes nothing.
+use Rattle.std.proofs.Common.{Err}
 use Prim.Native.Nat.{ℕ}
 use mathlib.Core.Path.{◌≡◌, refl, sym, ap, subst, ◌∙◌}
 use mathlib.Core.List.{List}
 use lib.ListN.{length}
 use Rattle.answers.specs.declared.Refusal.{Refusal}
-use Rattle.answers.specs.declared.Answer.{Answer}
+use Rattle.answers.specs.Answer.{Answer}
 use Rattle.answers.specs.Given.{Given, refuses, answer_of, buffer_of, Delivers, Answers}
 
-pub delivers_refusal : (out : List ℕ) {why : Refusal} → Delivers (refuses why) out (Answer.Refused why) out
+pub delivers_refusal : (out : List ℕ) {why : Refusal} → Delivers (refuses why) out (Err why) out
 delivers_refusal out = record { answer = refl; buffer = refl }
 
 -- the same under another description
@@ -22,7 +23,7 @@ delivers_one {out = out} e a b = (
   a.buffer ∙ ap (λ (x : Given). buffer_of x out) e ∙ sym b.buffer,
 )
 
-pub answers_refusal : (Right : Given → Type 0) (out : List ℕ) {why : Refusal} → Right (refuses why) → Answers Right out (Answer.Refused why) out
+pub answers_refusal : (Right : Given → Type 0) (out : List ℕ) {why : Refusal} → Right (refuses why) → Answers Right out (Err why) out
 answers_refusal Right out {why} h = record { given = refuses why; right = h; delivered = delivers_refusal out }
 
 -- what is right by one property is right by another that follows from it

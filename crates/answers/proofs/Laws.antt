@@ -1,4 +1,5 @@
 -- Laws of writing to a buffer, which the calls that write cite. Assumes nothing.
+use Rattle.std.proofs.Common.{Ok, Err}
 use Prim.Native.Nat.{ℕ, suc, ◌+◌, ◌≤◌, ◌<◌}
 use mathlib.Core.Path.{◌≡◌, sym, ap, ◌∙◌}
 use mathlib.Core.List.{List, ◌++◌}
@@ -8,7 +9,7 @@ use borrow.Author.Tests.{le-leb, lt-leb}
 use lib.ListN.{length, take, drop, get_or, set}
 use lib.Seq.{length-take-le, take-suc, take-length, drop-cons, set_at, append_snoc}
 use Rattle.answers.specs.declared.Refusal.{Refusal}
-use Rattle.answers.specs.declared.Answer.{Answer}
+use Rattle.answers.specs.Answer.{Answer, done}
 use Rattle.answers.specs.Buffer.{buffer_with, answer_with}
 
 pub buffer_fits : (text out : List ℕ) → length text ≤ length out → buffer_with text out ≡ text ++ drop (length text) out
@@ -20,12 +21,12 @@ unfolding buffer_with
 buffer_not text out l = rw (lt-leb _ _ l)
 
 pub answer_fits : (text : List ℕ) (fences state room : ℕ) → length text ≤ room
-    → answer_with text fences state room ≡ Answer.Done (length text) fences state
+    → answer_with text fences state room ≡ Ok (done (length text) fences state)
 unfolding answer_with
 answer_fits text fences state room l = rw (le-leb _ _ l)
 
 pub answer_not : (text : List ℕ) (fences state room : ℕ) → room < length text
-    → answer_with text fences state room ≡ Answer.Refused Refusal.BufferTooSmall
+    → answer_with text fences state room ≡ Err Refusal.BufferTooSmall
 unfolding answer_with
 answer_not text fences state room l = rw (lt-leb _ _ l)
 

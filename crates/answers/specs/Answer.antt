@@ -1,9 +1,20 @@
 -- Document 01, "Numbers and refusals": the table of refusals with their numbers and places, and "A refusal returns its number and place
 -- (0 where none is stated), every other number zero". "Success returns number 0 with place 0, bytes written, fences inserted and, for
 -- image runs, the end state".
-use Rattle.std.specs.Prelude.{ℕ, List, [], ◌∷◌}
+use Rattle.std.specs.Prelude.{ℕ, List, [], ◌∷◌, Result, Ok, Err}
 use Rattle.answers.specs.declared.Refusal.{Refusal}
-use Rattle.answers.specs.declared.Answer.{Answer}
+use Rattle.answers.specs.declared.Done.{Done}
+
+-- what a call that writes answers
+abbrev pub Answer : Type 0
+Answer = Result Done Refusal
+
+abbrev pub done : ℕ → ℕ → ℕ → Done
+done written fences state = record { written = written; fences = fences; state = state }
+
+-- what is said of a text or an image that is read
+abbrev pub Verdict : Type 0
+Verdict = Result Unit Refusal
 
 abbrev pub number_of : Refusal → ℕ
 number_of Refusal.OverLimit = 1
@@ -35,5 +46,5 @@ place_of Refusal.OutOfRange = 0
 
 -- number, place, written, fences, state
 abbrev pub numbers_of : Answer → List ℕ
-numbers_of (Answer.Done written fences state) = 0 ∷ 0 ∷ written ∷ fences ∷ state ∷ []
-numbers_of (Answer.Refused why) = number_of why ∷ place_of why ∷ 0 ∷ 0 ∷ 0 ∷ []
+numbers_of (Ok d) = 0 ∷ 0 ∷ d.written ∷ d.fences ∷ d.state ∷ []
+numbers_of (Err why) = number_of why ∷ place_of why ∷ 0 ∷ 0 ∷ 0 ∷ []

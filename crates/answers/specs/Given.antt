@@ -1,9 +1,9 @@
 -- Document 01: "7 last"; "A refusal returns its number and place ..; every buffer keeps its former bytes." A call that writes comes to something to
 -- give before its buffer is looked at, and that is what it answers where the buffer has room.
-use Rattle.std.specs.Prelude.{ℕ, ◌≡◌, List, length}
+use Rattle.std.specs.Prelude.{ℕ, ◌≡◌, List, length, Ok, Err}
 use Rattle.answers.specs.declared.Refusal.{Refusal}
-use Rattle.answers.specs.declared.Answer.{Answer}
-use Rattle.answers.specs.declared.Verdict.{Verdict}
+use Rattle.answers.specs.Answer.{Answer}
+use Rattle.answers.specs.Answer.{Verdict}
 use Rattle.answers.specs.Buffer.{buffer_with, answer_with}
 
 -- bytes to write, with the fences and the end state to tell; or a refusal
@@ -13,17 +13,17 @@ pub data Given : Type 0 where
 
 -- what is given unless a verdict refuses it, and the same where it is told by a property
 abbrev pub unless_refused : Verdict → Given → Given
-unless_refused Verdict.Accepted given = given
-unless_refused (Verdict.Refused why) given = refuses why
+unless_refused (Ok tt) given = given
+unless_refused (Err why) given = refuses why
 
 abbrev pub GivenUnless : Verdict → (Given → Type 0) → Given → Type 0
-GivenUnless Verdict.Accepted Right g = Right g
-GivenUnless (Verdict.Refused why) Right g = g ≡ refuses why
+GivenUnless (Ok tt) Right g = Right g
+GivenUnless (Err why) Right g = g ≡ refuses why
 
 -- the answer where the buffer has room for so many bytes, and the buffer after it
 abbrev pub answer_of : Given → ℕ → Answer
 answer_of (gives bytes fences state) room = answer_with bytes fences state room
-answer_of (refuses why) room = Answer.Refused why
+answer_of (refuses why) room = Err why
 
 abbrev pub buffer_of : Given → List ℕ → List ℕ
 buffer_of (gives bytes fences state) out = buffer_with bytes out

@@ -63,36 +63,32 @@ impl Refusal {
 }
 
 // What is said of a text or an image that is read: accepted, or refused.
+pub type Verdict = Result<(), Refusal>;
+
+// What a call has written. One without fences or an end state gives 0 there.
 #[derive(Clone, Copy)]
-pub enum Verdict {
-    Accepted,
-    Refused(Refusal),
+pub struct Done {
+    pub written: usize,
+    pub fences: usize,
+    pub state: usize,
 }
 
-// What a call that writes answers. A call without fences or an end state gives 0 there.
-#[derive(Clone, Copy)]
-pub enum Answer {
-    Done {
-        written: usize,
-        fences: usize,
-        state: usize,
-    },
-    Refused(Refusal),
-}
+// What a call that writes answers.
+pub type Answer = Result<Done, Refusal>;
 
-impl Answer {
-    // Number, place, written, fences, state.
-    pub fn numbers(self) -> [u64; 5]
-        ensures { result ≡ numbers_of self }
-    {
-        match self {
-            Answer::Done {
-                written,
-                fences,
-                state,
-            } => [0, 0, written as u64, fences as u64, state as u64],
-            Answer::Refused(why) => [why.number(), why.place(), 0, 0, 0],
-        }
+// The five numbers of an answer: number, place, written, fences, state.
+pub fn numbers(answer: Answer) -> [u64; 5]
+    ensures { result ≡ numbers_of answer }
+{
+    match answer {
+        Ok(done) => [
+            0,
+            0,
+            done.written as u64,
+            done.fences as u64,
+            done.state as u64,
+        ],
+        Err(why) => [why.number(), why.place(), 0, 0, 0],
     }
 }
 
@@ -103,16 +99,16 @@ pub fn write_out(text: &[u8], fences: usize, state: usize, out: &mut [u8]) -> An
 {
     let n = text.len();
     if out.len() < n {
-        return Answer::Refused(Refusal::BufferTooSmall);
+        return Err(Refusal::BufferTooSmall);
     }
     let mut i = 0;
     while i < n {
         out[i] = text[i];
         i += 1;
     }
-    Answer::Done {
+    Ok(Done {
         written: n,
         fences,
         state,
-    }
+    })
 }

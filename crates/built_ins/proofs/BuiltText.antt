@@ -1,4 +1,5 @@
 -- What is written of a built-in model is its text. Assumes nothing.
+use Rattle.std.proofs.Common.{Ok, Err}
 use Prim.Native.Nat.{ℕ, ◌<◌}
 use mathlib.Core.Path.{◌≡◌, refl, sym, ap, ◌∙◌}
 use mathlib.Core.List.{List, [], map}
@@ -7,9 +8,9 @@ use native.Mathlib.Decide.{dec_lt}
 use lib.ListN.{get_or, get_or-map}
 use Rattle.ground.proofs.Truths.{differ}
 use Rattle.answers.specs.declared.Refusal.{Refusal}
-use Rattle.answers.specs.declared.Verdict.{Verdict}
+use Rattle.answers.specs.Answer.{Verdict}
 use Rattle.tables.specs.Table.{table}
-use Rattle.models.specs.declared.model.Reading.{Reading}
+use Rattle.models.specs.Told.{Reading}
 use Rattle.models.specs.Model.{Description}
 use Rattle.models.specs.Text.{text_of}
 use Rattle.models.specs.Reading.{table_in}
@@ -38,7 +39,7 @@ built_back n e = by (dec_lt 15 n)
   where
     by : Dec (15 < n) → text_of (described (built_in_reading n).model) ≡ text_of (built_in n)
     by (yes l) =
-        let v : Verdict.Refused Refusal.OutOfRange ≡ Verdict.Accepted = ap (λ (r : Reading). r.verdict) (out_of_range n l ∙ e) in
+        let v : Err Refusal.OutOfRange ≡ (Ok tt) = ap (λ (r : Reading). r.verdict) (out_of_range n l ∙ e) in
         differ (cc)
     by (no g) =
         ap (λ (r : Reading). text_of (described r.model)) (sym (answered n (held (built_in n)) (omega arith) (sym (row_is n (omega arith)))))

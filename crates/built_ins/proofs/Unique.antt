@@ -3,10 +3,10 @@
 use Prim.Native.Nat.{ℕ}
 use mathlib.Core.Path.{◌≡◌, refl, sym, ◌∙◌}
 use mathlib.Core.List.{List}
-use Rattle.answers.specs.declared.Answer.{Answer}
+use Rattle.answers.specs.Answer.{Answer}
 use Rattle.answers.specs.Given.{Delivers}
 use Rattle.answers.proofs.Given.{delivers_one}
-use Rattle.models.specs.declared.model.Reading.{Reading}
+use Rattle.models.specs.Told.{Reading}
 use Rattle.built_ins.specs.BuiltIns.{built_in_reading, built_in_given}
 
 pub built_in_one : (number : ℕ) {r r' : Reading} → r ≡ built_in_reading number → r' ≡ built_in_reading number → r ≡ r'

@@ -1,8 +1,8 @@
 -- The text of an answer: an answer has five numbers, and five numbers of at most twenty digits have at most 104 bytes with the blanks between.
 -- Assumes nothing.
-use Rattle.std.proofs.Common.{◌≡◌, ℕ, ◌+◌, ◌^◌, ◌<◌, ◌≤◌, List, [], ◌∷◌, ◌++◌, length, get_or, refl, ap, ◌∙◌, arith, length-append}
+use Rattle.std.proofs.Common.{◌≡◌, ℕ, ◌+◌, ◌^◌, ◌<◌, ◌≤◌, List, [], ◌∷◌, ◌++◌, length, get_or, refl, ap, ◌∙◌, arith, length-append, Ok, Err}
 use Rattle.ground.specs.Bytes.{bytes}
-use Rattle.answers.specs.declared.Answer.{Answer}
+use Rattle.answers.specs.Answer.{Answer, done}
 use Rattle.answers.specs.Answer.{numbers_of}
 use Rattle.printing.specs.Decimal.{decimal}
 use Rattle.printing.proofs.Decimals.{length_digits}
@@ -16,8 +16,8 @@ pub all_five : (a : Answer) (l : List ℕ) → l ≡ numbers_of a
 all_five a l e = ap five e ∙ all a
   where
     all : (a : Answer) → five (numbers_of a) ≡ numbers_of a
-    all (Answer.Done written fences state) = refl
-    all (Answer.Refused why) = refl
+    all (Ok (done written fences state)) = refl
+    all (Err why) = refl
 
 behind-length : (n : ℕ) (rest : List ℕ) → n < 10 ^ 20 → length (behind_blanks (n ∷ rest)) ≤ 21 + length (behind_blanks rest)
 behind-length n rest l = omega (arith, length-append (bytes " " ++ decimal n) (behind_blanks rest), length_digits 19 n l)

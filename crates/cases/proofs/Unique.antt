@@ -3,7 +3,7 @@
 use Rattle.std.proofs.Common.{◌≡◌, ℕ, ◌<◌, min, Bool, List, length, get_or, take, drop, sym, refl, ◌∙◌, arith}
 use native.Mathlib.Decide.{dec_lt}
 use Rattle.io.specs.Counts.{IsPrefixLen}
-use Rattle.answers.specs.declared.Answer.{Answer}
+use Rattle.answers.specs.Answer.{Answer}
 use Rattle.answers.specs.Answer.{numbers_of}
 use Rattle.answers.specs.Given.{gives, Delivers}
 use Rattle.answers.proofs.Given.{delivers_one}

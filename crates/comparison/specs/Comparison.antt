@@ -1,14 +1,13 @@
 -- Document 01: "Two models are compared by their ppo: equal, first stronger, second stronger, or neither; stronger means no cell lower and
 -- some cell higher."
-use Rattle.std.specs.Prelude.{ℕ, ◌≤◌, ◌<◌, ◌≡◌, cond, List}
-use Rattle.answers.specs.declared.Verdict.{Verdict}
+use Rattle.std.specs.Prelude.{ℕ, ◌≤◌, ◌<◌, ◌≡◌, cond, List, Ok, Err, Result}
+use Rattle.answers.specs.Answer.{Verdict}
 use Rattle.tables.specs.declared.table.Table.{Table}
 use Rattle.tables.specs.declared.table.Row.{Row}
 use Rattle.tables.specs.declared.table.Column.{Column}
 use Rattle.tables.specs.Table.{cell, at_least}
-use Rattle.models.specs.declared.model.Reading.{Reading}
+use Rattle.models.specs.Told.{Reading}
 use Rattle.comparison.specs.declared.Comparison.{Comparison}
-use Rattle.comparison.specs.declared.Compared.{Compared}
 use Rattle.models.specs.Reading.{reading}
 
 abbrev pub Same : Table → Table → Type 0
@@ -45,13 +44,13 @@ comparison a b =
     (cond (at_least b a) Comparison.SecondStronger Comparison.Neither)
 
 -- the refusals of the first text, then of the second, then the comparison
-abbrev pub compared_both : Table → Verdict → Table → Compared
-compared_both a Verdict.Accepted b = Compared.Is (comparison a b)
-compared_both a (Verdict.Refused why) b = Compared.Refused why
+abbrev pub compared_both : Table → Verdict → Table → Result Comparison Refusal
+compared_both a (Ok tt) b = Ok (comparison a b)
+compared_both a (Err why) b = Err why
 
-abbrev pub compared_first : Verdict → Table → Reading → Compared
-compared_first Verdict.Accepted a s = compared_both a s.verdict s.model.ppo
-compared_first (Verdict.Refused why) a s = Compared.Refused why
+abbrev pub compared_first : Verdict → Table → Reading → Result Comparison Refusal
+compared_first (Ok tt) a s = compared_both a s.verdict s.model.ppo
+compared_first (Err why) a s = Err why
 
-unfoldable pub comparing : List ℕ → List ℕ → Compared
+unfoldable pub comparing : List ℕ → List ℕ → Result Comparison Refusal
 comparing t u = compared_first (reading t).verdict (reading t).model.ppo (reading u)

@@ -60,8 +60,8 @@ fn compare_with(first: Table, second: Reading) -> Compared
     let verdict = second.verdict;
     let model = second.model;
     match verdict {
-        Verdict::Refused(why) => Compared::Refused(why),
-        Verdict::Accepted => Compared::Is(compare_tables(first, model.ppo)),
+        Err(why) => Err(why),
+        Ok(()) => Ok(compare_tables(first, model.ppo)),
     }
 }
 
@@ -73,7 +73,7 @@ pub fn compare(first: &[u8], second: &[u8]) -> Compared
     let verdict = r.verdict;
     let model = r.model;
     match verdict {
-        Verdict::Refused(why) => Compared::Refused(why),
-        Verdict::Accepted => compare_with(model.ppo, models::reader::read(second)),
+        Err(why) => Err(why),
+        Ok(()) => compare_with(model.ppo, models::reader::read(second)),
     }
 }

@@ -1,5 +1,6 @@
 -- What a direct run has done that was accepted: its call has gone through all its stages, so what it wrote is the rule's run of the whole stream, and
 -- the rest is said by the theorems of `rule`. Assumes nothing.
+use Rattle.std.proofs.Common.{Ok}
 use Prim.Native.Nat.{ℕ, ◌<◌, ◌≤◌}
 use mathlib.Core.Path.{◌≡◌, refl, sym, ap, subst, ◌∙◌}
 use mathlib.Core.Bool.{true}
@@ -8,7 +9,7 @@ use mathlib.Core.List.{List, [], ◌∷◌, map}
 use native.Mathlib.Omega.{arith}
 use lib.ListN.{length, take, length-map}
 use Rattle.ground.proofs.Truths.{differ}
-use Rattle.answers.specs.declared.Answer.{Answer}
+use Rattle.answers.specs.Answer.{Answer, done}
 use Rattle.answers.specs.Given.{Given, gives, Delivers}
 use Rattle.tables.specs.declared.table.Row.{Row}
 use Rattle.tables.specs.declared.table.Column.{Column}
@@ -114,7 +115,7 @@ gives_ran number upstream target stream bytes fences state e = by (run_is number
         }
 
 module _ {number : ℕ} {upstream target stream out : List ℕ} {written fences state : ℕ} {after : List ℕ}
-    (call : Delivers (outcome number upstream target stream) out (Answer.Done written fences state) after) where
+    (call : Delivers (outcome number upstream target stream) out (Ok (done written fences state)) after) where
   pub done_right : RunDone number upstream target stream out written fences state after
   done_right =
       let gave : Gave (outcome number upstream target stream) out written fences state after = done_gave call in

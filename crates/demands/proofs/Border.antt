@@ -1,11 +1,12 @@
 -- What the C host holds: a returned number, five numbers and a buffer. From them it knows the answer of the call below and so all that the demands
 -- say of it: an answer is known by its numbers, since no refusal has the number 0. Assumes nothing.
+use Rattle.std.proofs.Common.{Ok, Err}
 use Prim.Native.Nat.{ℕ}
 use mathlib.Core.Path.{◌≡◌, sym, ap, ◌∙◌}
 use mathlib.Core.List.{List, [], ◌∷◌}
 use Rattle.ground.proofs.Truths.{differ}
 use Rattle.answers.specs.declared.Refusal.{Refusal}
-use Rattle.answers.specs.declared.Answer.{Answer}
+use Rattle.answers.specs.Answer.{Answer, done}
 use Rattle.answers.specs.Answer.{number_of, place_of, numbers_of}
 use Rattle.host.specs.Border.{number_in, Tells}
 use Rattle.demands.specs.Border.{TellsDone, TellsRefused}
@@ -29,13 +30,13 @@ module _ {Promise : Answer → List ℕ → Type 0} {number : ℕ} {numbers afte
   tells_done e = by call.what call.promised call.returned call.told
     where
       by : (r : Answer) → Promise r after → number ≡ number_in r → numbers ≡ numbers_of r → TellsDone Promise numbers after
-      by (Answer.Done written fences state) p n t = record { written = written; fences = fences; state = state; told = t; promised = p }
-      by (Answer.Refused why) p n t = absurd (never_0 why (sym e ∙ n))
+      by (Ok (done written fences state)) p n t = record { written = written; fences = fences; state = state; told = t; promised = p }
+      by (Err why) p n t = absurd (never_0 why (sym e ∙ n))
 
   pub tells_refused : (number ≡ 0 → ⊥) → TellsRefused Promise number numbers after
   tells_refused other = by call.what call.promised call.returned call.told
     where
       by : (r : Answer) → Promise r after → number ≡ number_in r → numbers ≡ numbers_of r → TellsRefused Promise number numbers after
-      by (Answer.Done written fences state) p n t = absurd (other n)
-      by (Answer.Refused why) p n t =
+      by (Ok (done written fences state)) p n t = absurd (other n)
+      by (Err why) p n t =
           record { why = why; number_is = n; told = t ∙ ap (λ (k : ℕ). k ∷ place_of why ∷ 0 ∷ 0 ∷ 0 ∷ []) (sym n); promised = p }

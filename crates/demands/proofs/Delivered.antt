@@ -1,4 +1,5 @@
 -- What an answer and a buffer tell of what was to be given: a call is done exactly where there are bytes and they fit. Assumes nothing.
+use Rattle.std.proofs.Common.{Ok, Err}
 use Prim.Native.Nat.{ℕ, ◌<◌, ◌≤◌}
 use mathlib.Core.Path.{◌≡◌, refl, sym, ap, subst, ◌∙◌}
 use mathlib.Core.List.{List, ◌++◌}
@@ -8,7 +9,7 @@ use lib.ListN.{length, take, drop}
 use lib.Seq.{take-append_seam, drop-append_seam}
 use Rattle.ground.proofs.Truths.{differ}
 use Rattle.answers.specs.declared.Refusal.{Refusal}
-use Rattle.answers.specs.declared.Answer.{Answer}
+use Rattle.answers.specs.Answer.{Answer, done}
 use Rattle.answers.specs.Given.{Given, gives, refuses, answer_of, buffer_of, Delivers}
 use Rattle.answers.proofs.Laws.{buffer_fits, buffer_not, answer_fits, answer_not}
 
@@ -19,19 +20,19 @@ pub record Gave (given : Given) (out : List ℕ) (written fences state : ℕ) (a
   pub fits : written ≤ length out
   pub rest : drop written after ≡ drop written out
 
-pub done_gave : {g : Given} {out after : List ℕ} {w f s : ℕ} → Delivers g out (Answer.Done w f s) after → Gave g out w f s after
+pub done_gave : {g : Given} {out after : List ℕ} {w f s : ℕ} → Delivers g out (Ok (done w f s)) after → Gave g out w f s after
 done_gave {g} {out} {after} {w} {f} {s} d = by g refl d.answer d.buffer
   where
-    by : (x : Given) → g ≡ x → Answer.Done w f s ≡ answer_of x (length out) → after ≡ buffer_of x out → Gave g out w f s after
+    by : (x : Given) → g ≡ x → Ok (done w f s) ≡ answer_of x (length out) → after ≡ buffer_of x out → Gave g out w f s after
     by (refuses why) e a b = differ (cc)
     by (gives bytes n t) e a b = fit (dec_le (length bytes) (length out))
       where
         fit : Dec (length bytes ≤ length out) → Gave g out w f s after
         fit (no l) =
-            let z : Answer.Done w f s ≡ Answer.Refused Refusal.BufferTooSmall = a ∙ answer_not bytes n t (length out) (omega arith) in
+            let z : Ok (done w f s) ≡ Err Refusal.BufferTooSmall = a ∙ answer_not bytes n t (length out) (omega arith) in
             differ (cc)
         fit (yes l) =
-            let z : Answer.Done w f s ≡ Answer.Done (length bytes) n t = a ∙ answer_fits bytes n t (length out) l in
+            let z : Ok (done w f s) ≡ Ok (done (length bytes) n t) = a ∙ answer_fits bytes n t (length out) l in
             let size : w ≡ length bytes = cc in
             let fences : n ≡ f = cc in
             let state : t ≡ s = cc in
@@ -52,11 +53,11 @@ pub data Withheld (given : Given) (room : ℕ) : Refusal → Type 0 where
   refused : {why : Refusal} → given ≡ refuses why → Withheld given room why
   exceeds : {bytes : List ℕ} {f s : ℕ} → given ≡ gives bytes f s → room < length bytes → Withheld given room Refusal.BufferTooSmall
 
-pub refused_withheld : {g : Given} {out after : List ℕ} {why : Refusal} → Delivers g out (Answer.Refused why) after
+pub refused_withheld : {g : Given} {out after : List ℕ} {why : Refusal} → Delivers g out (Err why) after
     → (after ≡ out) × Withheld g (length out) why
 refused_withheld {g} {out} {after} {why} d = by g refl d.answer d.buffer
   where
-    by : (x : Given) → g ≡ x → Answer.Refused why ≡ answer_of x (length out) → after ≡ buffer_of x out → (after ≡ out) × Withheld g (length out) why
+    by : (x : Given) → g ≡ x → Err why ≡ answer_of x (length out) → after ≡ buffer_of x out → (after ≡ out) × Withheld g (length out) why
     by (refuses is) e a b =
         let same : is ≡ why = cc in
         (b, refused (e ∙ ap refuses same))
@@ -64,10 +65,10 @@ refused_withheld {g} {out} {after} {why} d = by g refl d.answer d.buffer
       where
         fit : Dec (length bytes ≤ length out) → (after ≡ out) × Withheld g (length out) why
         fit (yes l) =
-            let z : Answer.Refused why ≡ Answer.Done (length bytes) n t = a ∙ answer_fits bytes n t (length out) l in
+            let z : Err why ≡ Ok (done (length bytes) n t) = a ∙ answer_fits bytes n t (length out) l in
             differ (cc)
         fit (no l) =
-            let z : Answer.Refused why ≡ Answer.Refused Refusal.BufferTooSmall = a ∙ answer_not bytes n t (length out) (omega arith) in
+            let z : Err why ≡ Err Refusal.BufferTooSmall = a ∙ answer_not bytes n t (length out) (omega arith) in
             let same : Refusal.BufferTooSmall ≡ why = cc in
             (b ∙ buffer_not bytes out (omega arith), subst (Withheld g (length out)) same (exceeds e (omega arith)))
 
@@ -78,12 +79,12 @@ refused_as e (exceeds h l) = differ (cc)
 
 -- and the other way round
 module _ {g : Given} {out after : List ℕ} {r : Answer} (d : Delivers g out r after) where
-  pub withheld_refused : {why : Refusal} → Withheld g (length out) why → r ≡ Answer.Refused why
+  pub withheld_refused : {why : Refusal} → Withheld g (length out) why → r ≡ Err why
   withheld_refused (refused e) = d.answer ∙ ap (λ (x : Given). answer_of x (length out)) e
   withheld_refused (exceeds {bytes = bytes} {f = f} {s = s} e l) =
       d.answer ∙ ap (λ (x : Given). answer_of x (length out)) e ∙ answer_not bytes f s (length out) l
 
-  pub gave_done : {bytes : List ℕ} {f s : ℕ} → g ≡ gives bytes f s → length bytes ≤ length out → r ≡ Answer.Done (length bytes) f s
+  pub gave_done : {bytes : List ℕ} {f s : ℕ} → g ≡ gives bytes f s → length bytes ≤ length out → r ≡ Ok (done (length bytes) f s)
   gave_done {bytes} {f} {s} e l = d.answer ∙ ap (λ (x : Given). answer_of x (length out)) e ∙ answer_fits bytes f s (length out) l
 
   pub gave_bytes : {bytes : List ℕ} {f s : ℕ} → g ≡ gives bytes f s → length bytes ≤ length out → take (length bytes) after ≡ bytes
@@ -95,7 +96,7 @@ module _ {g : Given} {out after : List ℕ} {r : Answer} (d : Delivers g out r a
 
   -- where what is to be given is no refusal 7 and at most so long, a buffer of that size is never too small
   pub never_too_small : (size : ℕ) → (g ≡ refuses Refusal.BufferTooSmall → ⊥)
-      → ((bytes : List ℕ) (f s : ℕ) → g ≡ gives bytes f s → length bytes ≤ size) → size ≤ length out → r ≡ Answer.Refused Refusal.BufferTooSmall → ⊥
+      → ((bytes : List ℕ) (f s : ℕ) → g ≡ gives bytes f s → length bytes ≤ size) → size ≤ length out → r ≡ Err Refusal.BufferTooSmall → ⊥
   never_too_small size none short l e = by (refused_withheld (subst (λ (x : Answer). Delivers g out x after) e d)).1 refl
     where
       by : {why : Refusal} → Withheld g (length out) why → why ≡ Refusal.BufferTooSmall → ⊥

@@ -1,6 +1,7 @@
 -- Demand 1: "Every public call takes every text, stream, image, number and buffer, of length nought too, stays within bounds and ends." That is
 -- what a proof of a function in Rattle says, and no public function has a `requires`. "Bad input is refused by the number and place that document
 -- 01 gives; a refused call writes nothing": here, of the answers and the buffers. Assumes nothing.
+use Rattle.std.proofs.Common.{Ok, Err, Result}
 use Prim.Native.Nat.{ℕ, ◌≤◌}
 use mathlib.Core.Path.{◌≡◌, refl, ap, subst}
 use mathlib.Core.Logic.{◌↔◌}
@@ -9,14 +10,14 @@ use native.Mathlib.Omega.{arith}
 use lib.ListN.{length, take, drop, length-map}
 use Rattle.ground.proofs.Truths.{differ}
 use Rattle.answers.specs.declared.Refusal.{Refusal}
-use Rattle.answers.specs.declared.Answer.{Answer}
+use Rattle.answers.specs.Answer.{Answer, done}
 use Rattle.answers.specs.Answer.{number_of, place_of, numbers_of}
 use Rattle.answers.specs.Given.{Given, refuses, Delivers, Answers}
 use Rattle.operations.specs.Operation.{byte_of}
 use Rattle.shims.specs.declared.Models.{Models}
 use Rattle.runs.specs.Call.{outcome}
 use Rattle.demands.specs.DirectRuns.{over_limit, no_operation, no_such_fence, no_fence_will_do, RunRefused, opening, at_stream, too_small}
-use Rattle.answers.specs.declared.Verdict.{Verdict}
+use Rattle.answers.specs.Answer.{Verdict}
 use Rattle.layout.specs.Verdict.{verdict_of}
 use Rattle.image.specs.Calls.{written_back, Rewrites}
 use Rattle.image_runs.specs.Run.{run_over}
@@ -24,7 +25,6 @@ use Rattle.drawing.specs.Calls.{drawn}
 use Rattle.drawing_reader.specs.Undrawing.{Undrawn}
 use Rattle.writing.specs.Calls.{back_given}
 use Rattle.built_ins.specs.BuiltIns.{built_in_given}
-use Rattle.comparison.specs.declared.Compared.{Compared}
 use Rattle.comparison.specs.Comparison.{comparing}
 use Rattle.host.specs.Border.{number_in, compared_as, relation_of, TellsRelation}
 use Rattle.generation.specs.Generating.{ImageGiven}
@@ -48,14 +48,14 @@ use Rattle.demands.proofs.Running.{RunIs, unopened, over, runs, run_is, is_run_l
 
 -- A refused call tells its number and place and zeros, and leaves every byte of the buffer as it was: of every call that writes, whatever it has to
 -- give.
-pub refused_writes_nothing : {given : Given} {out after : List ℕ} {why : Refusal} → Delivers given out (Answer.Refused why) after
-    → (numbers_of (Answer.Refused why) ≡ number_of why ∷ place_of why ∷ 0 ∷ 0 ∷ 0 ∷ []) × (after ≡ out)
+pub refused_writes_nothing : {given : Given} {out after : List ℕ} {why : Refusal} → Delivers given out (Err why) after
+    → (numbers_of (Err why) ≡ number_of why ∷ place_of why ∷ 0 ∷ 0 ∷ 0 ∷ []) × (after ≡ out)
 refused_writes_nothing d = (refl, (refused_withheld d).0)
 
 -- And a call that succeeds changes the first bytes alone, as many as it tells: bytes past those written stay.
 pub done_writes_the_front : {given : Given} {out after : List ℕ} {written fences state : ℕ}
-    → Delivers given out (Answer.Done written fences state) after
-    → (numbers_of (Answer.Done written fences state) ≡ 0 ∷ 0 ∷ written ∷ fences ∷ state ∷ [])
+    → Delivers given out (Ok (done written fences state)) after
+    → (numbers_of (Ok (done written fences state)) ≡ 0 ∷ 0 ∷ written ∷ fences ∷ state ∷ [])
     × (written ≤ length out) × (length (take written after) ≡ written) × (drop written after ≡ drop written out)
 done_writes_the_front d =
     let gave = done_gave d in
@@ -64,7 +64,7 @@ done_writes_the_front d =
 -- A direct run is refused exactly when 01 says, with the place that it gives.
 module _ {number : ℕ} {upstream target stream out : List ℕ} {r : Answer} {after : List ℕ}
     (call : Delivers (outcome number upstream target stream) out r after) where
-  pub run_refused_exactly_when : (why : Refusal) → (r ≡ Answer.Refused why) ↔ RunRefused number upstream target stream (length out) why
+  pub run_refused_exactly_when : (why : Refusal) → (r ≡ Err why) ↔ RunRefused number upstream target stream (length out) why
   run_refused_exactly_when why = (
     λ e. given_told (refused_withheld (subst (λ (x : Answer). Delivers (outcome number upstream target stream) out x after) e call)).1,
     λ h. withheld_refused call (told_given h),
@@ -111,7 +111,7 @@ module _ {number : ℕ} {upstream target stream out : List ℕ} {r : Answer} {af
 -- Generating is refused exactly when 01 says.
 module _ (number : ℕ) (upstream target : List ℕ) {out : List ℕ} {r : Answer} {after : List ℕ}
     (call : Answers (ImageGiven number upstream target) out r after) where
-  pub generate_refused_exactly_when : (why : Refusal) → (r ≡ Answer.Refused why) ↔ GenerateRefused number upstream target (length out) why
+  pub generate_refused_exactly_when : (why : Refusal) → (r ≡ Err why) ↔ GenerateRefused number upstream target (length out) why
   generate_refused_exactly_when why = (
     λ e.
         by_call (generate_is number upstream target call.given call.right)
@@ -152,7 +152,7 @@ module _ (number : ℕ) (upstream target : List ℕ) {out : List ℕ} {r : Answe
 
 -- A listing is refused exactly when 01 says.
 pub list_refused_exactly_when : (input : List ℕ) {out : List ℕ} {r : Answer} {after : List ℕ} → Answers (Listed input) out r after → (why : Refusal)
-    → (r ≡ Answer.Refused why) ↔ ListRefused input (length out) why
+    → (r ≡ Err why) ↔ ListRefused input (length out) why
 list_refused_exactly_when input {out} {after = after} call why = (
   λ e.
       withheld_listing call.right
@@ -161,24 +161,24 @@ list_refused_exactly_when input {out} {after = after} call why = (
 )
 
 -- An image is refused exactly when 01 says, and so are the calls that read one and write it back, and run over one.
-pub image_refused_exactly_when : (image : List ℕ) (why : Refusal) → (verdict_of image ≡ Verdict.Refused why) ↔ ImageRefused image why
+pub image_refused_exactly_when : (image : List ℕ) (why : Refusal) → (verdict_of image ≡ Err why) ↔ ImageRefused image why
 image_refused_exactly_when image why = (verdict_told image, told_verdict image)
 
 pub image_read_refused_exactly_when : (image : List ℕ) {out header : List ℕ} {r : Answer} {after : List ℕ} → Rewrites image out header r after
-    → (why : Refusal) → (r ≡ Answer.Refused why) ↔ ReadRefused image (length out) why
+    → (why : Refusal) → (r ≡ Err why) ↔ ReadRefused image (length out) why
 image_read_refused_exactly_when image {out} {after = after} call why = (
   λ e. back_told image (length out) (refused_withheld (subst (λ (x : Answer). Delivers (written_back image) out x after) e call.delivered)).1,
   λ h. withheld_refused call.delivered (told_back image (length out) h),
 )
 
 -- The four numbers of the header are zeros then.
-pub image_read_refused_header : (image : List ℕ) {out header after : List ℕ} {why : Refusal} → Rewrites image out header (Answer.Refused why) after
+pub image_read_refused_header : (image : List ℕ) {out header after : List ℕ} {why : Refusal} → Rewrites image out header (Err why) after
     → header ≡ 0 ∷ 0 ∷ 0 ∷ 0 ∷ []
 image_read_refused_header image call = call.header_told
 
 pub image_run_refused_exactly_when : (image : List ℕ) (start : ℕ) (stream : List ℕ) {out : List ℕ} {r : Answer} {after : List ℕ}
     → Delivers (run_over image start stream) out r after → (why : Refusal)
-    → (r ≡ Answer.Refused why) ↔ ImageRunRefused image start stream (length out) why
+    → (r ≡ Err why) ↔ ImageRunRefused image start stream (length out) why
 image_run_refused_exactly_when image start stream {out} {after = after} call why = (
   λ e. run_told image start stream (length out)
       (refused_withheld (subst (λ (x : Answer). Delivers (run_over image start stream) out x after) e call)).1,
@@ -187,7 +187,7 @@ image_run_refused_exactly_when image start stream {out} {after = after} call why
 
 -- An image that is drawn is refused exactly when 01 says of images, or has more to give than fits,
 pub draw_refused_exactly_when : (image : List ℕ) {out : List ℕ} {r : Answer} {after : List ℕ} → Delivers (drawn image) out r after
-    → (why : Refusal) → (r ≡ Answer.Refused why) ↔ DrawRefused image (length out) why
+    → (why : Refusal) → (r ≡ Err why) ↔ DrawRefused image (length out) why
 draw_refused_exactly_when image {out} {after = after} call why = (
   λ e. draw_told image (length out) (refused_withheld (subst (λ (x : Answer). Delivers (drawn image) out x after) e call)).1,
   λ h. withheld_refused call (told_draw image (length out) h),
@@ -195,7 +195,7 @@ draw_refused_exactly_when image {out} {after = after} call why = (
 
 -- and a drawing that is read back exactly when 02 says.
 pub undraw_refused_exactly_when : (text : List ℕ) {out : List ℕ} {r : Answer} {after : List ℕ} → Answers (Undrawn text) out r after
-    → (why : Refusal) → (r ≡ Answer.Refused why) ↔ UndrawRefused text (length out) why
+    → (why : Refusal) → (r ≡ Err why) ↔ UndrawRefused text (length out) why
 undraw_refused_exactly_when text {out} {after = after} call why = (
   λ e. undraw_told call.right (refused_withheld (subst (λ (x : Answer). Delivers call.given out x after) e call.delivered)).1,
   λ h. withheld_refused call.delivered (told_undraw call.right h),
@@ -204,14 +204,14 @@ undraw_refused_exactly_when text {out} {after = after} call why = (
 -- A model's text that is read and written back, and a built-in model, are refused exactly when 01 says.
 pub model_refused_exactly_when : (text : List ℕ) {out : List ℕ} {r : Answer} {after : List ℕ} → Delivers (back_given text) out r after
     → (why : Refusal)
-    → (r ≡ Answer.Refused why) ↔ ModelRefused text (length out) why
+    → (r ≡ Err why) ↔ ModelRefused text (length out) why
 model_refused_exactly_when text {out} {after = after} call why = (
   λ e. model_told text (length out) (refused_withheld (subst (λ (x : Answer). Delivers (back_given text) out x after) e call)).1,
   λ h. withheld_refused call (told_model text (length out) h),
 )
 
 pub built_in_refused_exactly_when : (number : ℕ) {out : List ℕ} {r : Answer} {after : List ℕ} → Delivers (built_in_given number) out r after
-    → (why : Refusal) → (r ≡ Answer.Refused why) ↔ BuiltInRefused number (length out) why
+    → (why : Refusal) → (r ≡ Err why) ↔ BuiltInRefused number (length out) why
 built_in_refused_exactly_when number {out} {after = after} call why = (
   λ e. built_in_told number (length out) (refused_withheld (subst (λ (x : Answer). Delivers (built_in_given number) out x after) e call)).1,
   λ h. withheld_refused call (told_built_in number (length out) h),
@@ -220,7 +220,7 @@ built_in_refused_exactly_when number {out} {after = after} call why = (
 -- Two models compare as 01 says, refusals too, and in no other way: the number that the call returns, its relation and its five numbers are those of
 -- the one thing that the two texts compare as.
 pub compare_told : (first second : List ℕ) {number relation : ℕ} {numbers : List ℕ} → TellsRelation (comparing first second) number relation numbers
-    → (compared : Compared) × TextsCompare first second compared × ((other : Compared) → TextsCompare first second other → compared ≡ other)
+    → (compared : Result Comparison Refusal) × TextsCompare first second compared × ((other : Result Comparison Refusal) → TextsCompare first second other → compared ≡ other)
     × (number ≡ number_in (compared_as compared)) × (relation ≡ relation_of compared) × (numbers ≡ numbers_of (compared_as compared))
 compare_told first second call = (
   comparing first second,

@@ -1,5 +1,6 @@
 -- Drawings and images, each made from the other: a drawing has one image, and that image has this drawing, since both hang on the same words of a
 -- machine. Assumes nothing.
+use Rattle.std.proofs.Common.{Ok, Err}
 use Prim.Native.Nat.{ℕ, ◌+◌, ◌*◌, ◌<◌, ◌≤◌}
 use mathlib.Core.Path.{◌≡◌, refl, sym, ap, ap₂, subst, ◌∙◌}
 use mathlib.Core.List.{List}
@@ -8,8 +9,8 @@ use lib.ListN.{length}
 use Rattle.ground.specs.Bytes.{at}
 use Rattle.ground.proofs.Truths.{differ}
 use Rattle.answers.specs.declared.Refusal.{Refusal}
-use Rattle.answers.specs.declared.Answer.{Answer}
-use Rattle.answers.specs.declared.Verdict.{Verdict}
+use Rattle.answers.specs.Answer.{Answer, done}
+use Rattle.answers.specs.Answer.{Verdict}
 use Rattle.answers.specs.Given.{Given, gives, refuses, unless_refused, Delivers, Answers}
 use Rattle.operations.specs.Alphabet.{stride}
 use Rattle.layout.specs.Verdict.{verdict_of}
@@ -74,8 +75,8 @@ given_drawing {image} {text} {f} {s} small = by (verdict_of image) refl
   where
     by : (v : Verdict) → verdict_of image ≡ v → unless_refused v (gives (drawing_of (header_of image) (rows_of image)) 0 0) ≡ gives text f s
         → DrawnAs image text × (f ≡ 0) × (s ≡ 0)
-    by (Verdict.Refused why) a e = differ (cc)
-    by Verdict.Accepted a e =
+    by (Err why) a e = differ (cc)
+    by (Ok tt) a e =
         let same : text ≡ drawing_of (header_of image) (rows_of image) = cc in
         let no_fences : f ≡ 0 = cc in
         let no_state : s ≡ 0 = cc in
@@ -107,9 +108,9 @@ module _ (image : List ℕ) (room : ℕ) where
   draw_told h = by (verdict_of image) refl h
     where
       by : (v : Verdict) → verdict_of image ≡ v → {why : Refusal} → Withheld (given v) room why → DrawRefused image room why
-      by (Verdict.Refused is) e w = calls.image_refused (verdict_told image (e ∙ ap Verdict.Refused (refused_as refl w)))
-      by Verdict.Accepted e (refused w) = differ (cc)
-      by Verdict.Accepted e (exceeds {bytes = out} w l) =
+      by (Err is) e w = calls.image_refused (verdict_told image (e ∙ ap Err (refused_as refl w)))
+      by (Ok tt) e (refused w) = differ (cc)
+      by (Ok tt) e (exceeds {bytes = out} w l) =
           let same : drawing_of (header_of image) (rows_of image) ≡ out = cc in
           calls.too_small e (omega (arith, l, ap length same))
 
@@ -143,7 +144,7 @@ told_undraw u (calls.too_small l d k) = exceeds (image_given d u) k
 
 -- a text is read back exactly where it is a drawing
 module _ {text out : List ℕ} {r : Answer} {after : List ℕ} (call : Answers (Undrawn text) out r after) where
-  pub undrawn_accepted : ((why : Refusal) → r ≡ Answer.Refused why → why ≡ Refusal.BufferTooSmall) → (image : List ℕ) × DrawnAs image text
+  pub undrawn_accepted : ((why : Refusal) → r ≡ Err why → why ≡ Refusal.BufferTooSmall) → (image : List ℕ) × DrawnAs image text
   undrawn_accepted only = by call.right call.delivered
     where
       by : {g : Given} → Undrawn text g → Delivers g out r after → (image : List ℕ) × DrawnAs image text
@@ -155,7 +156,7 @@ module _ {text out : List ℕ} {r : Answer} {after : List ℕ} (call : Answers (
           differ (cc)
       by (undrawn {h = h} {rows = rows} l m t) d = (image_of h rows, machine_drawn h rows m t)
 
-  pub accepted_undrawn : {image : List ℕ} → DrawnAs image text → (why : Refusal) → r ≡ Answer.Refused why → why ≡ Refusal.BufferTooSmall
+  pub accepted_undrawn : {image : List ℕ} → DrawnAs image text → (why : Refusal) → r ≡ Err why → why ≡ Refusal.BufferTooSmall
   accepted_undrawn {image} d why e = by (refused_withheld (subst (λ (x : Answer). Delivers call.given out x after) e call.delivered)).1
     where
       by : {w : Refusal} → Withheld call.given (length out) w → w ≡ Refusal.BufferTooSmall
@@ -166,14 +167,14 @@ module _ {text out : List ℕ} {r : Answer} {after : List ℕ} (call : Answers (
 
 -- calls that were done
 pub drawing_done : (image : List ℕ) → ((k : ℕ) → at image k < 256) → {out : List ℕ} {written fences state : ℕ} {after : List ℕ}
-    → Delivers (drawn image) out (Answer.Done written fences state) after → DrawDone image out written fences state after
+    → Delivers (drawn image) out (Ok (done written fences state)) after → DrawDone image out written fences state after
 drawing_done image small call =
     let gave = done_gave call in
     let is = given_drawing small gave.is in
     record { drawn = is.0; no_fences = is.1; no_state = is.2; size = gave.size; fits = gave.fits; rest_kept = gave.rest }
 
 pub undrawing_done : (text : List ℕ) {out : List ℕ} {written fences state : ℕ} {after : List ℕ}
-    → Answers (Undrawn text) out (Answer.Done written fences state) after → UndrawDone text out written fences state after
+    → Answers (Undrawn text) out (Ok (done written fences state)) after → UndrawDone text out written fences state after
 undrawing_done text call =
     let gave = done_gave call.delivered in
     let is = given_image call.right gave.is in

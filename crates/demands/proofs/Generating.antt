@@ -1,5 +1,6 @@
 -- What a call gives that generates an image, in 01's words: its opening's refusal, 8 or 9, or the image of the minimal machine. By the stages of
 -- the call and what the machine's contract says. Assumes nothing.
+use Rattle.std.proofs.Common.{Ok, Err, Result}
 use Prim.Native.Nat.{ℕ, ◌+◌, ◌-◌, ◌*◌, ◌/◌, ◌%◌, ◌<◌}
 use mathlib.Core.Path.{◌≡◌, refl, sym, ap, subst, subst₂, ◌∙◌}
 use mathlib.Core.Bool.{false}
@@ -13,7 +14,7 @@ use lib.ListN.{length, take}
 use Rattle.ground.specs.Bytes.{at}
 use Rattle.ground.proofs.Truths.{differ}
 use Rattle.answers.specs.declared.Refusal.{Refusal}
-use Rattle.answers.specs.declared.Verdict.{Verdict}
+use Rattle.answers.specs.Answer.{Verdict}
 use Rattle.answers.specs.declared.Answer as answers
 use Rattle.answers.specs.Given.{Given, gives, refuses, GivenUnless, Answers}
 use Rattle.operations.specs.Alphabet.{access_letters}
@@ -31,7 +32,6 @@ use Rattle.mealy.proofs.Unique as mealy
 use Rattle.mealy.proofs.Unique.{described_unique}
 use Rattle.mealy.specs.Arrivals.{Described}
 use Rattle.mealy.proofs.Describing.{described_as}
-use Rattle.machine.specs.declared.machine.Outcome.{Outcome}
 use Rattle.machine.specs.Rows.{answer_at}
 use Rattle.machine.specs.Shim.{letters_of, shim, shim_of}
 use Rattle.machine.specs.Counted.{ManySituations, ManyStates}
@@ -153,9 +153,9 @@ module _ {number : ℕ} {upstream target : List ℕ} {m : Models} (o : Opened nu
         refusal why (unmade.overfull f h) e = subst (MachineIs m) (sym e) (overfull (as_9.0 e).0 (as_9.0 e).1)
         refusal why (unmade.roomless f k d s) e = absurd (never_7 m g given e)
 
-        by : (x : Outcome) → MachineMade m blank x given.rows → g ≡ given_by x m given.rows → MachineIs m g
-        by (Outcome.Refused why) h e = refusal why h.generated.0 e
-        by (Outcome.Made x) h e =
+        by : (x : Result Machine Refusal) → MachineMade m blank x given.rows → g ≡ given_by x m given.rows → MachineIs m g
+        by (Err why) h e = refusal why h.generated.0 e
+        by (Ok x) h e =
             let bytes = image_of (header_for x m) given.rows in
             let few : ManySituations m.way (up m) (on m) → ⊥ = λ z.
             let w : gives bytes 0 0 ≡ refuses Refusal.TooManySituations = sym e ∙ as_8.1 z in
@@ -175,8 +175,8 @@ generate_is number upstream target g given = by (opened number upstream target).
   where
     by : (v : Verdict) → (opened number upstream target).verdict ≡ v → GivenUnless v (MachineGiven (opened number upstream target).models) g
         → GenerateIs number upstream target g
-    by (Verdict.Refused why) e h = subst (GenerateIs number upstream target) (sym h) (unopened (opening_told number upstream target e))
-    by Verdict.Accepted e h =
+    by (Err why) e h = subst (GenerateIs number upstream target) (sym h) (unopened (opening_told number upstream target e))
+    by (Ok tt) e h =
         let o = opens_told (shims.opens (way_of number) upstream target e) in
         opens o (machine_is o h)
 
@@ -197,7 +197,7 @@ module _ {m : Models} {first second : List ℕ} (a : MinimalImage m first) (b : 
 
 -- An accepted call has written the image.
 pub image_done : (number : ℕ) (upstream target : List ℕ) {out : List ℕ} {written fences state : ℕ} {after : List ℕ}
-    → Answers (ImageGiven number upstream target) out (answers.Answer.Done written fences state) after
+    → Answers (ImageGiven number upstream target) out (Answer.Done written fences state) after
     → GenerateDone number upstream target out written fences state after
 image_done number upstream target {out} {written} {fences} {state} {after} call =
     by (generate_is number upstream target call.given call.right) gave.is

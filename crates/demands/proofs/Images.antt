@@ -1,5 +1,6 @@
 -- What is given by the calls that take an image, in 01's words: the verdict on an image goes by the lowest wrong block and the lowest barred byte,
 -- a run over one by the first byte at fault, and the other stages by what they test. Assumes nothing.
+use Rattle.std.proofs.Common.{Option, Some, None, Ok, Err}
 use Prim.Native.Nat.{ℕ, ◌+◌, ◌*◌, ◌<◌, ◌≤◌}
 use mathlib.Core.Path.{◌≡◌, refl, ap, ap₂, subst, ◌∙◌}
 use mathlib.Core.Bool.{Bool, true, false, cond}
@@ -10,15 +11,13 @@ use borrow.Author.Tests.{eq-eqb, lt-ltb, le-ltb, eqb-true, ltb-true, ltb-false}
 use lib.Dec.{ltb, eqb}
 use lib.ListN.{length}
 use Rattle.ground.specs.Bytes.{at}
-use Rattle.ground.specs.declared.Found.{Found}
 use Rattle.ground.proofs.Lowest.{lowest_takes, lowest_nowhere, takes_lowest, none_nowhere}
 use Rattle.ground.proofs.Truths.{differ}
 use Rattle.answers.specs.declared.Refusal.{Refusal}
-use Rattle.answers.specs.declared.Verdict.{Verdict}
+use Rattle.answers.specs.Answer.{Verdict}
 use Rattle.answers.specs.Given.{Given, gives, refuses, unless_refused}
 use Rattle.operations.specs.declared.Kind.{Kind}
 use Rattle.operations.specs.declared.Operation.{Operation}
-use Rattle.operations.specs.declared.Byte.{Byte}
 use Rattle.operations.specs.Operation.{byte_is}
 use Rattle.operations.specs.Alphabet.{letter_of}
 use Rattle.places.specs.Layout.{limit, position}
@@ -40,28 +39,28 @@ use Rattle.demands.proofs.Threads.{over_walk, over_long}
 
 module _ (image : List ℕ) where
   -- An image is refused exactly when 01 says.
-  pub verdict_told : {why : Refusal} → verdict_of image ≡ Verdict.Refused why → ImageRefused image why
+  pub verdict_told : {why : Refusal} → verdict_of image ≡ Err why → ImageRefused image why
   unfolding verdict_of
   verdict_told {why} = by (ltb limit (length image)) refl
     where
-      as_is : {v : Refusal} → ImageRefused image v → Verdict.Refused v ≡ Verdict.Refused why → ImageRefused image why
+      as_is : {v : Refusal} → ImageRefused image v → Err v ≡ Err why → ImageRefused image why
       as_is {v} h e =
           let same : v ≡ why = cc in
           subst (ImageRefused image) same h
 
-      found : length image ≤ 7168 → (a b : Found) → lowest_wrong image ≡ a → lowest_barred image ≡ b → stages a b ≡ Verdict.Refused why
+      found : length image ≤ 7168 → (a b : Option ℕ) → lowest_wrong image ≡ a → lowest_barred image ≡ b → stages a b ≡ Err why
           → ImageRefused image why
-      found l (Found.At b) c p q e =
+      found l (Some b) c p q e =
           let t = lowest_takes (wrong image) 0 (block_count image) b p in
           as_is (broken b l (omega (arith, t.1)) t.2 (λ c k. t.3 c (omega arith) k)) e
-      found l Found.Nowhere (Found.At k) p q e =
+      found l None (Some k) p q e =
           let none = lowest_nowhere (wrong image) 0 (block_count image) p in
           let t = lowest_takes (barred image) 0 (length image) k q in
           as_is (barred_value k l (λ b m. none b (omega arith) (omega arith)) (omega (arith, t.1)) t.2 (λ j m. t.3 j (omega arith) m)) e
-      found l Found.Nowhere Found.Nowhere p q e = differ (cc)
+      found l None None p q e = differ (cc)
 
       by : (b : Bool) → ltb limit (length image) ≡ b
-          → cond b (Verdict.Refused Refusal.OverLimit) (stages (lowest_wrong image) (lowest_barred image)) ≡ Verdict.Refused why
+          → cond b (Err Refusal.OverLimit) (stages (lowest_wrong image) (lowest_barred image)) ≡ Err why
           → ImageRefused image why
       by true p e = as_is (calls.over_limit (omega (arith, ltb-true limit (length image) p))) e
       by false p e = found (omega (arith, ltb-false limit (length image) p)) (lowest_wrong image) (lowest_barred image) refl refl e
@@ -70,15 +69,15 @@ module _ (image : List ℕ) where
   unfolding verdict_of
   within l = rw (le-ltb limit (length image) (omega arith))
 
-  pub told_verdict : {why : Refusal} → ImageRefused image why → verdict_of image ≡ Verdict.Refused why
+  pub told_verdict : {why : Refusal} → ImageRefused image why → verdict_of image ≡ Err why
   unfolding verdict_of
   told_verdict (calls.over_limit l) = rw (lt-ltb limit (length image) (omega arith))
   told_verdict (broken b l k t none) =
-      within l ∙ ap (λ (a : Found). stages a (lowest_barred image))
+      within l ∙ ap (λ (a : Option ℕ). stages a (lowest_barred image))
       (takes_lowest (wrong image) 0 (block_count image) b (omega arith) (omega arith) t (λ c p q. none c q))
   told_verdict (barred_value k l none m t lower) =
       within l
-      ∙ ap₂ (λ (a b : Found). stages a b) (none_nowhere (wrong image) 0 (block_count image) (λ b p q. none b (omega arith)))
+      ∙ ap₂ (λ (a b : Option ℕ). stages a b) (none_nowhere (wrong image) 0 (block_count image) (λ b p q. none b (omega arith)))
       (takes_lowest (barred image) 0 (length image) k (omega arith) (omega arith) t (λ j p q. lower j q))
 
 -- What is withheld by a call that reads an image and writes it back.
@@ -89,12 +88,12 @@ module _ (image : List ℕ) (room : ℕ) where
     where
       by : (v : Verdict) → verdict_of image ≡ v → {why : Refusal} → Withheld (unless_refused v (gives image 0 0)) room why
           → calls.ReadRefused image room why
-      by (Verdict.Refused is) e {why} (refused h) =
+      by (Err is) e {why} (refused h) =
           let same : is ≡ why = cc in
-          calls.image_refused (verdict_told image (e ∙ ap Verdict.Refused same))
-      by (Verdict.Refused is) e (exceeds h l) = differ (cc)
-      by Verdict.Accepted e (refused h) = differ (cc)
-      by Verdict.Accepted e (exceeds {bytes = bytes} h l) =
+          calls.image_refused (verdict_told image (e ∙ ap Err same))
+      by (Err is) e (exceeds h l) = differ (cc)
+      by (Ok tt) e (refused h) = differ (cc)
+      by (Ok tt) e (exceeds {bytes = bytes} h l) =
           let same : image ≡ bytes = cc in
           calls.too_small e (omega (arith, l, ap length same))
 
@@ -120,20 +119,20 @@ module _ (image : List ℕ) where
           let same : is ≡ why = cc in
           subst (λ (x : Stop). FaultOf x b s) same h
 
-      access : (k : Kind) → byte_is b ≡ Byte.Is (Operation.Access k) → (t : Bool) → eqb (at image (position 1 s (2 * letter_of k))) 254 ≡ t
+      access : (k : Kind) → byte_is b ≡ Some (Operation.Access k) → (t : Bool) → eqb (at image (position 1 s (2 * letter_of k))) 254 ≡ t
           → (m : Move) → cond t (Step.Stopped Stop.NoFenceWillDo) (Step.Taken m) ≡ Step.Stopped why → FaultOf why b s
       access k is true t m e = as_is Stop.NoFenceWillDo (k, is, eqb-true (at image (position 1 s (2 * letter_of k))) 254 t) e
       access k is false t m e = differ (cc)
 
-      fence : (f : ℕ) → byte_is b ≡ Byte.Is (Operation.Fence f) → (t : Bool) → ltb f (upstream_fences_of image) ≡ t
+      fence : (f : ℕ) → byte_is b ≡ Some (Operation.Fence f) → (t : Bool) → ltb f (upstream_fences_of image) ≡ t
           → (m : Move) → cond t (Step.Taken m) (Step.Stopped Stop.NoSuchFence) ≡ Step.Stopped why → FaultOf why b s
       fence f is true t m e = differ (cc)
       fence f is false t m e = as_is Stop.NoSuchFence (f, is, ltb-false f (upstream_fences_of image) t) e
 
-      by : (x : Byte) → byte_is b ≡ x → step_as image s x ≡ Step.Stopped why → FaultOf why b s
-      by Byte.Nothing is e = as_is Stop.NoOperation is e
-      by (Byte.Is (Operation.Access k)) is e = access k is (eqb (at image (position 1 s (2 * letter_of k))) 254) refl _ e
-      by (Byte.Is (Operation.Fence f)) is e = fence f is (ltb f (upstream_fences_of image)) refl _ e
+      by : (x : Option Operation) → byte_is b ≡ x → step_as image s x ≡ Step.Stopped why → FaultOf why b s
+      by None is e = as_is Stop.NoOperation is e
+      by (Some (Operation.Access k)) is e = access k is (eqb (at image (position 1 s (2 * letter_of k))) 254) refl _ e
+      by (Some (Operation.Fence f)) is e = fence f is (ltb f (upstream_fences_of image)) refl _ e
 
   fault_stop : (why : Stop) (b s : ℕ) → FaultOf why b s → step_at image s b ≡ Step.Stopped why
   unfolding step_at
@@ -218,7 +217,7 @@ module _ (image : List ℕ) (start : ℕ) (stream : List ℕ) (room : ℕ) where
   abbrev given : Given
   given = run_over image start stream
 
-  by_walk : verdict_of image ≡ Verdict.Accepted → start < states_of image → length stream ≤ 4096 → (w : Walked) → walked image start stream ≡ w
+  by_walk : verdict_of image ≡ (Ok tt) → start < states_of image → length stream ≤ 4096 → (w : Walked) → walked image start stream ≡ w
       → {why : Refusal} → Withheld (outcome_of w) room why → Told why
   by_walk a l k (ended bytes f t) e (refused h) = differ (cc)
   by_walk a l k (ended bytes f t) e (exceeds {bytes = out} h m) =
@@ -231,7 +230,7 @@ module _ (image : List ℕ) (start : ℕ) (stream : List ℕ) (room : ℕ) where
       stops Stop.NoSuchFence e = no_such_fence place a l k (walk_told image Stop.NoSuchFence start stream place e)
       stops Stop.NoFenceWillDo e = no_fence_will_do place a l k (walk_told image Stop.NoFenceWillDo start stream place e)
 
-  out_of_range : verdict_of image ≡ Verdict.Accepted → states_of image ≤ start → given ≡ refuses Refusal.OutOfRange
+  out_of_range : verdict_of image ≡ (Ok tt) → states_of image ≤ start → given ≡ refuses Refusal.OutOfRange
   unfolding run_over
   out_of_range a l = rw (a, le-ltb start (states_of image) l)
 
@@ -239,23 +238,23 @@ module _ (image : List ℕ) (start : ℕ) (stream : List ℕ) (room : ℕ) where
   unfolding run_over
   run_told {why} h = by_verdict (verdict_of image) refl
     where
-      by_length : verdict_of image ≡ Verdict.Accepted → start < states_of image → Dec (length stream ≤ 4096) → Told why
+      by_length : verdict_of image ≡ (Ok tt) → start < states_of image → Dec (length stream ≤ 4096) → Told why
       by_length a l (yes k) =
           by_walk a l k (walked image start stream) refl (subst (λ (g : Given). Withheld g room why) (over_walk image start stream a l k) h)
       by_length a l (no k) =
           let long : 4096 < length stream = omega arith in
           subst Told (refused_as (over_long image start stream a l long) h) (calls.over_limit a l long)
 
-      by_start : verdict_of image ≡ Verdict.Accepted → Dec (start < states_of image) → Told why
+      by_start : verdict_of image ≡ (Ok tt) → Dec (start < states_of image) → Told why
       by_start a (yes l) = by_length a l (dec_le (length stream) 4096)
       by_start a (no l) = subst Told (refused_as (out_of_range a (omega arith)) h) (no_such_state a (omega arith))
 
       by_verdict : (v : Verdict) → verdict_of image ≡ v → Told why
-      by_verdict (Verdict.Refused is) a =
-          calls.image_refused (verdict_told image (a ∙ ap Verdict.Refused (refused_as (ap (run_as image start stream) a) h)))
-      by_verdict Verdict.Accepted a = by_start a (dec_lt start (states_of image))
+      by_verdict (Err is) a =
+          calls.image_refused (verdict_told image (a ∙ ap Err (refused_as (ap (run_as image start stream) a) h)))
+      by_verdict (Ok tt) a = by_start a (dec_lt start (states_of image))
 
-  stopping : (why : Stop) {place : ℕ} → verdict_of image ≡ Verdict.Accepted → start < states_of image → length stream ≤ 4096
+  stopping : (why : Stop) {place : ℕ} → verdict_of image ≡ (Ok tt) → start < states_of image → length stream ≤ 4096
       → WalkStopsAt image start stream place (FaultOf image why) → Withheld given room (refusal_of why place)
   stopping why a l k h = refused (over_walk image start stream a l k ∙ ap outcome_of (told_walk image why h))
 

@@ -1,5 +1,6 @@
 -- When a listing is refused, in 01's words: what its call gives is followed through its stages, each of which goes on or gives its refusal; and what
 -- 01 says of an input tells at which of them it is refused. Assumes nothing.
+use Rattle.std.proofs.Common.{Option, Some, Ok, Err}
 use Prim.Native.Nat.{ℕ, ◌<◌, ◌≤◌}
 use mathlib.Core.Path.{◌≡◌, refl, sym, ap, subst, ◌∙◌}
 use mathlib.Core.Bool.{Bool, true, false, cond}
@@ -11,12 +12,11 @@ use lib.Dec.{ltb}
 use lib.ListN.{length}
 use Rattle.ground.proofs.Truths.{differ}
 use Rattle.answers.specs.declared.Refusal.{Refusal}
-use Rattle.answers.specs.declared.Verdict.{Verdict}
+use Rattle.answers.specs.Answer.{Verdict}
 use Rattle.answers.specs.Given.{Given, refuses, GivenUnless}
 use Rattle.operations.specs.Operation.{byte_of}
 use Rattle.rule.specs.Stream.{Stream}
 use Rattle.rule.specs.Rule.{way_number}
-use Rattle.shims.specs.declared.WayRead.{WayRead}
 use Rattle.shims.specs.declared.Models.{Models}
 use Rattle.shims.specs.declared.Opening.{Opening}
 use Rattle.shims.specs.Opening.{way_of, opened_by, opened, GivenOnOpened}
@@ -127,7 +127,7 @@ module _ {input : List ℕ} {room : ℕ} where
   parts_told : {p : Parts} → ListShaped input p → {g : Given} → PartsListed p g → {why : Refusal} → Withheld g room why
       → ListRefused input room why
   parts_told {p} s {g} h {why} w =
-      by call.verdict refl (subst (λ (r : WayRead). Right (opened_by r p.upstream p.target)) (sym (read_written p.way)) h)
+      by call.verdict refl (subst (λ (r : Option Way). Right (opened_by r p.upstream p.target)) (sym (read_written p.way)) h)
     where
       Right : Opening → Type 0
       Right x = GivenOnOpened x (λ (m : Models). ModelsListed m p.stream) g
@@ -136,8 +136,8 @@ module _ {input : List ℕ} {room : ℕ} where
       call = opened (way_number p.way) p.upstream p.target
 
       by : (v : Verdict) → call.verdict ≡ v → GivenUnless v (λ (x : Given). ModelsListed call.models p.stream x) g → ListRefused input room why
-      by (Verdict.Refused is) v x = as_told (opening s (opening_told (way_number p.way) p.upstream p.target v)) x w
-      by Verdict.Accepted v x =
+      by (Err is) v x = as_told (opening s (opening_told (way_number p.way) p.upstream p.target v)) x w
+      by (Ok tt) v x =
           models_told (record { shape_is = s; opened = opens_told (opens (way_of (way_number p.way)) p.upstream p.target v) }) x w
 
   shape_told : length input ≤ 32768 → {q : Option Parts} → shape input ≡ q → {g : Given} → ShapeListed q g → {why : Refusal} → Withheld g room why
@@ -172,8 +172,8 @@ parts_given {p} {g = g} (shaped {p = r} h) e =
 
 -- the texts' stage goes by what the way's number and the texts open
 opens_parts : (p : Parts) {x : Opening} → opened (way_number p.way) p.upstream p.target ≡ x
-    → opened_by (WayRead.Is p.way) p.upstream p.target ≡ x
-opens_parts p e = ap (λ (r : WayRead). opened_by r p.upstream p.target) (sym (read_written p.way)) ∙ e
+    → opened_by (Some p.way) p.upstream p.target ≡ x
+opens_parts p e = ap (λ (r : Option Way). opened_by r p.upstream p.target) (sym (read_written p.way)) ∙ e
 
 opening_given : {input : List ℕ} {p : Parts} {g : Given} → Listed input g → ListShaped input p → {x : Opening}
     → opened (way_number p.way) p.upstream p.target ≡ x → GivenOnOpened x (λ (m : Models). ModelsListed m p.stream) g

@@ -1,5 +1,6 @@
 -- What is given by the calls that take a model's text or a built-in's number, in 01's words: what is read of a text is what 01 tells of it, and a
 -- number is in range or not. Assumes nothing.
+use Rattle.std.proofs.Common.{Ok, Err, Result}
 use Prim.Native.Nat.{ℕ, ◌<◌, ◌≤◌}
 use mathlib.Core.Path.{◌≡◌, refl, sym, ap, subst, ◌∙◌}
 use mathlib.Core.List.{List}
@@ -9,16 +10,15 @@ use borrow.Author.Tests.{lt-ltb, le-ltb}
 use lib.ListN.{length}
 use Rattle.ground.proofs.Truths.{differ}
 use Rattle.answers.specs.declared.Refusal.{Refusal}
-use Rattle.answers.specs.declared.Verdict.{Verdict}
+use Rattle.answers.specs.Answer.{Verdict}
 use Rattle.answers.specs.Given.{Given, gives, refuses}
-use Rattle.models.specs.declared.model.Reading.{Reading}
+use Rattle.models.specs.Told.{Reading}
 use Rattle.models.specs.Reading.{reading}
 use Rattle.models.specs.Text.{text_of}
 use Rattle.models.specs.Told.{Told, accepting}
 use Rattle.models.proofs.Words.{told_is}
 use Rattle.writing.specs.Calls.{text_given, back_given}
 use Rattle.built_ins.specs.BuiltIns.{built_in, built_in_reading, built_in_given}
-use Rattle.comparison.specs.declared.Compared.{Compared}
 use Rattle.comparison.specs.Comparison.{compared_both, compared_first, comparing}
 use Rattle.comparison.proofs.Words.{compares, compares_is}
 use Rattle.demands.specs.ModelCalls as calls
@@ -35,9 +35,9 @@ module _ (text : List ℕ) (room : ℕ) where
   model_told h = by (reading text).verdict refl h
     where
       by : (v : Verdict) → (reading text).verdict ≡ v → {why : Refusal} → Withheld (text_given v text) room why → ModelRefused text room why
-      by (Verdict.Refused is) e w = subst (ModelRefused text room) (refused_as refl w) (text_refused (told_refused text e))
-      by Verdict.Accepted e (refused h) = differ (cc)
-      by Verdict.Accepted e (exceeds {bytes = bytes} h l) =
+      by (Err is) e w = subst (ModelRefused text room) (refused_as refl w) (text_refused (told_refused text e))
+      by (Ok tt) e (refused h) = differ (cc)
+      by (Ok tt) e (exceeds {bytes = bytes} h l) =
           let same : text ≡ bytes = cc in
           calls.too_small (told_accepted text e) (omega (arith, l, ap length same))
 
@@ -80,15 +80,15 @@ compared_told first second = by (reading first).verdict refl
   where
     both : Told first (accepting (reading first).model) → (v : Verdict) → (reading second).verdict ≡ v
         → TextsCompare first second (compared_both (reading first).model.ppo v (reading second).model.ppo)
-    both a (Verdict.Refused why) e = second_refused a (told_refused second e)
-    both a Verdict.Accepted e = calls.compares a (told_accepted second e) (compares _ _)
+    both a (Err why) e = second_refused a (told_refused second e)
+    both a (Ok tt) e = calls.compares a (told_accepted second e) (compares _ _)
 
     by : (v : Verdict) → (reading first).verdict ≡ v
         → TextsCompare first second (compared_first v (reading first).model.ppo (reading second))
-    by (Verdict.Refused why) e = first_refused (told_refused first e)
-    by Verdict.Accepted e = both (told_accepted first e) (reading second).verdict refl
+    by (Err why) e = first_refused (told_refused first e)
+    by (Ok tt) e = both (told_accepted first e) (reading second).verdict refl
 
-pub told_compared : (first second : List ℕ) {c : Compared} → TextsCompare first second c → comparing first second ≡ c
+pub told_compared : (first second : List ℕ) {c : Result Comparison Refusal} → TextsCompare first second c → comparing first second ≡ c
 unfolding comparing
 told_compared first second (first_refused t) = ap (λ (r : Reading). compared_first r.verdict r.model.ppo (reading second)) (sym (told_is t))
 told_compared first second (second_refused {a = a} t u) =
@@ -97,4 +97,4 @@ told_compared first second (second_refused {a = a} t u) =
 told_compared first second (calls.compares {a = a} t u c) =
     ap (λ (r : Reading). compared_first r.verdict r.model.ppo (reading second)) (sym (told_is t))
     ∙ ap (λ (r : Reading). compared_both a.ppo r.verdict r.model.ppo) (sym (told_is u))
-    ∙ ap Compared.Is (sym (compares_is c))
+    ∙ ap Ok (sym (compares_is c))

@@ -1,5 +1,6 @@
 -- A stream of bytes and its operations: as long as each byte is an operation of the upstream model they go side by side, byte by byte, and where that
 -- ends the fault stands. Assumes nothing.
+use Rattle.std.proofs.Common.{Option, Some}
 use Prim.Native.Nat.{ℕ, suc, ◌+◌, ◌<◌}
 use mathlib.Core.Path.{◌≡◌, refl, sym, ap, ap₂, subst, ◌∙◌}
 use mathlib.Core.List.{List, [], ◌∷◌, ◌++◌, map}
@@ -9,7 +10,6 @@ use lib.ListN.{length}
 use Rattle.ground.proofs.Truths.{differ}
 use Rattle.answers.specs.declared.Refusal.{Refusal}
 use Rattle.operations.specs.declared.Operation.{Operation}
-use Rattle.operations.specs.declared.Byte.{Byte}
 use Rattle.operations.specs.Operation.{byte_is, byte_of}
 use Rattle.operations.proofs.Bytes.{written_read}
 use Rattle.rule.specs.Stream.{Stream}
@@ -31,11 +31,11 @@ below_first n (Operation.Access k) s b = (tt, b)
 below_first n (Operation.Fence f) s b = b
 
 -- what is read of bytes that are one more
-pub reads_first : (b : ℕ) (bytes : List ℕ) (op : Operation) (s : Stream) → StreamIn (b ∷ bytes) (op ∷ s) → (byte_is b ≡ Byte.Is op) × StreamIn bytes s
+pub reads_first : (b : ℕ) (bytes : List ℕ) (op : Operation) (s : Stream) → StreamIn (b ∷ bytes) (op ∷ s) → (byte_is b ≡ Some op) × StreamIn bytes s
 reads_first b bytes op s e = ((cc), (cc))
 
-pub reads_on : (b : ℕ) (bytes : List ℕ) (op : Operation) (s : Stream) → byte_is b ≡ Byte.Is op → StreamIn bytes s → StreamIn (b ∷ bytes) (op ∷ s)
-reads_on b bytes op s e h = ap₂ (λ (x : Byte) (l : List Byte). x ∷ l) e h
+pub reads_on : (b : ℕ) (bytes : List ℕ) (op : Operation) (s : Stream) → byte_is b ≡ Some op → StreamIn bytes s → StreamIn (b ∷ bytes) (op ∷ s)
+reads_on b bytes op s e h = ap₂ (λ (x : Option Operation) (l : List Option Operation). x ∷ l) e h
 
 -- Bytes that read as operations of the model, and then any others: the operations are these and then those of the others, and the fault is theirs.
 pub read_then : (n at : ℕ) (bytes : List ℕ) (s : Stream) (rest : List ℕ) → StreamIn bytes s → Below n s
@@ -132,7 +132,7 @@ pub record OperationAt (n at : ℕ) (bytes : List ℕ) (first : Stream) (op : Op
   pub split : bytes ≡ before ++ (byte ∷ rest)
   pub reads : StreamIn before first
   pub below : Below n first
-  pub is : byte_is byte ≡ Byte.Is op
+  pub is : byte_is byte ≡ Some op
 
 pub operation_at : (n at : ℕ) (bytes : List ℕ) (first : Stream) (op : Operation) (rest : Stream) → operations n at bytes ≡ first ++ (op ∷ rest)
     → OperationAt n at bytes first op
@@ -156,7 +156,7 @@ operation_at n at (b ∷ bytes) first op rest e = look (judged n at b) refl firs
           split = refl;
           reads = refl;
           below = tt;
-          is = g.0 ∙ ap (λ (x : Operation). Byte.Is x) same;
+          is = g.0 ∙ ap (λ (x : Operation). Some x) same;
         }
     look (good o) h (x ∷ more) z again =
         let same : o ≡ x = cc in
@@ -168,7 +168,7 @@ operation_at n at (b ∷ bytes) first op rest e = look (judged n at b) refl firs
           byte = m.byte;
           rest = m.rest;
           split = ap (λ (l : List ℕ). b ∷ l) m.split;
-          reads = reads_on b m.before x more (g.0 ∙ ap (λ (y : Operation). Byte.Is y) same) m.reads;
+          reads = reads_on b m.before x more (g.0 ∙ ap (λ (y : Operation). Some y) same) m.reads;
           below = own_on n x more (subst (OfN n) same g.1) m.below;
           is = m.is;
         }
@@ -190,7 +190,7 @@ reads_one [] (op ∷ s) t d e = differ (cc)
 reads_one (b ∷ bytes) [] t d e = differ (cc)
 reads_one (b ∷ bytes) (op ∷ s) [] d e = differ (cc)
 reads_one (b ∷ bytes) (op ∷ s) (o ∷ t) d e =
-    let first : Byte.Is op ≡ Byte.Is o = sym (reads_first b bytes op s d).0 ∙ (reads_first b bytes o t e).0 in
+    let first : Some op ≡ Some o = sym (reads_first b bytes op s d).0 ∙ (reads_first b bytes o t e).0 in
     let same : op ≡ o = cc in
     ap₂ (λ (x : Operation) (l : Stream). x ∷ l) same (reads_one bytes s t (reads_first b bytes op s d).1 (reads_first b bytes o t e).1)
 

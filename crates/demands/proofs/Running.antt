@@ -1,5 +1,6 @@
 -- What the call of a direct run gives, in 01's words: its opening's refusal, the refusal of a stream over its limit, or what the direct run of the
 -- two models gives. By the stages of the call. Assumes nothing.
+use Rattle.std.proofs.Common.{Ok, Err}
 use Prim.Native.Nat.{ℕ, ◌<◌, ◌≤◌}
 use mathlib.Core.Path.{◌≡◌, refl, ap, ◌∙◌}
 use mathlib.Core.Bool.{Bool, true, false, cond}
@@ -8,7 +9,7 @@ use borrow.Author.Tests.{ltb-true, ltb-false, lt-ltb, le-ltb}
 use lib.Dec.{ltb}
 use lib.ListN.{length}
 use Rattle.answers.specs.declared.Refusal.{Refusal}
-use Rattle.answers.specs.declared.Verdict.{Verdict}
+use Rattle.answers.specs.Answer.{Verdict}
 use Rattle.answers.specs.Given.{Given, refuses, unless_refused}
 use Rattle.shims.specs.declared.Models.{Models}
 use Rattle.shims.specs.declared.Opening.{Opening}
@@ -42,8 +43,8 @@ module _ (number : ℕ) (upstream target stream : List ℕ) where
       by_length o false e = runs o (ltb-false 4096 (length stream) e) (direct_is call.models stream)
 
       by : (v : Verdict) → call.verdict ≡ v → RunIs number upstream target stream (unless_refused v (run_given call.models stream))
-      by (Verdict.Refused why) e = unopened (opening_told number upstream target e)
-      by Verdict.Accepted e = by_length (opens_told (opens (way_of number) upstream target e)) (ltb 4096 (length stream)) refl
+      by (Err why) e = unopened (opening_told number upstream target e)
+      by (Ok tt) e = by_length (opens_told (opens (way_of number) upstream target e)) (ltb 4096 (length stream)) refl
 
   pub is_run_lem : {g : Given} → RunIs number upstream target stream g → outcome number upstream target stream ≡ g
   is_run_lem (unopened o) = ap (λ (x : Opening). on_opened x λ (m : Models). run_given m stream) (told_opening o)

@@ -1,5 +1,6 @@
 -- The sizes that include/shim.h calls never too small: a call with a buffer of that size or more is not refused with 7. What each call gives is at
 -- most so long, and no call comes to 7 before it looks at its buffer. Assumes nothing.
+use Rattle.std.proofs.Common.{Option, Some, None, Ok, Err}
 use Prim.Native.Nat.{ℕ, zero, suc, ◌<◌, ◌≤◌}
 use mathlib.Core.Path.{◌≡◌, refl, sym, ap, subst, ◌∙◌}
 use mathlib.Core.Bool.{Bool, true, false, cond}
@@ -10,14 +11,13 @@ use borrow.Author.Tests.{ltb-false, leb-true}
 use lib.Dec.{leb, ltb}
 use lib.ListN.{length, get_or}
 use Rattle.ground.specs.Bytes.{at}
-use Rattle.ground.specs.declared.Found.{Found}
 use Rattle.ground.proofs.Truths.{differ, true_false}
 use Rattle.answers.specs.declared.Refusal.{Refusal}
-use Rattle.answers.specs.declared.Answer.{Answer}
-use Rattle.answers.specs.declared.Verdict.{Verdict}
+use Rattle.answers.specs.Answer.{Answer}
+use Rattle.answers.specs.Answer.{Verdict}
 use Rattle.answers.specs.Given.{Given, gives, refuses, unless_refused, GivenUnless, Delivers, Answers}
 use Rattle.rule.specs.Pairs.{every}
-use Rattle.models.specs.declared.model.Reading.{Reading}
+use Rattle.models.specs.Told.{Reading}
 use Rattle.models.specs.Reading.{table_in, reading}
 use Rattle.models.specs.Told.{Told, held, accepting, refusing, over, departs, repeated, accepted}
 use Rattle.models.proofs.Words.{told}
@@ -28,7 +28,6 @@ use Rattle.writing.specs.Calls.{text_given, back_given}
 use Rattle.writing.proofs.Short.{text_short}
 use Rattle.built_ins.specs.BuiltIns.{four_rows, under, none, model, built_ins, built_in, built_in_reading, built_in_given}
 use Rattle.rule.specs.Rule.{way_number}
-use Rattle.shims.specs.declared.WayRead.{WayRead}
 use Rattle.shims.specs.declared.Models.{Models}
 use Rattle.shims.specs.declared.Opening.{Opening}
 use Rattle.shims.specs.Opening.{opened_by}
@@ -71,7 +70,7 @@ use Rattle.demands.proofs.Threads.{gives_walk}
 
 -- no opening is refused with 7
 
-told_not_7 : {t : List ℕ} {r : Reading} → Told t r → r.verdict ≡ Verdict.Refused Refusal.BufferTooSmall → ⊥
+told_not_7 : {t : List ℕ} {r : Reading} → Told t r → r.verdict ≡ Err Refusal.BufferTooSmall → ⊥
 told_not_7 (over l) e = differ (cc)
 told_not_7 (departs l n h) e = differ (cc)
 told_not_7 (repeated d k l f t s) e = differ (cc)
@@ -79,37 +78,37 @@ told_not_7 (accepted d l f t s) e = differ (cc)
 
 opening_not_7 : {number : ℕ} {upstream target : List ℕ} {why : Refusal} → OpeningRefused number upstream target why → why ≡ Refusal.BufferTooSmall → ⊥
 opening_not_7 (no_way n) e = differ (cc)
-opening_not_7 (upstream_refused way w t) e = told_not_7 t (ap Verdict.Refused e)
-opening_not_7 (target_refused way w u t) e = told_not_7 t (ap Verdict.Refused e)
+opening_not_7 (upstream_refused way w t) e = told_not_7 t (ap Err e)
+opening_not_7 (target_refused way w u t) e = told_not_7 t (ap Err e)
 
 -- nor is an image; and one that is accepted is within its limit
 
-stages_not_7 : (a b : Found) → stages a b ≡ Verdict.Refused Refusal.BufferTooSmall → ⊥
-stages_not_7 (Found.At i) b e = differ (cc)
-stages_not_7 Found.Nowhere (Found.At i) e = differ (cc)
-stages_not_7 Found.Nowhere Found.Nowhere e = differ (cc)
+stages_not_7 : (a b : Option ℕ) → stages a b ≡ Err Refusal.BufferTooSmall → ⊥
+stages_not_7 (Some i) b e = differ (cc)
+stages_not_7 None (Some i) e = differ (cc)
+stages_not_7 None None e = differ (cc)
 
-verdict_not_7 : (image : List ℕ) → verdict_of image ≡ Verdict.Refused Refusal.BufferTooSmall → ⊥
+verdict_not_7 : (image : List ℕ) → verdict_of image ≡ Err Refusal.BufferTooSmall → ⊥
 unfolding verdict_of
 verdict_not_7 image = by (ltb limit (length image))
   where
-    by : (b : Bool) → cond b (Verdict.Refused Refusal.OverLimit) (stages (lowest_wrong image) (lowest_barred image))
-        ≡ Verdict.Refused Refusal.BufferTooSmall → ⊥
+    by : (b : Bool) → cond b (Err Refusal.OverLimit) (stages (lowest_wrong image) (lowest_barred image))
+        ≡ Err Refusal.BufferTooSmall → ⊥
     by true e = differ (cc)
     by false e = stages_not_7 (lowest_wrong image) (lowest_barred image) e
 
-accepted_short : (image : List ℕ) → verdict_of image ≡ Verdict.Accepted → length image ≤ image_out
+accepted_short : (image : List ℕ) → verdict_of image ≡ (Ok tt) → length image ≤ image_out
 unfolding verdict_of
 accepted_short image = by (ltb limit (length image)) refl
   where
     by : (b : Bool) → ltb limit (length image) ≡ b
-        → cond b (Verdict.Refused Refusal.OverLimit) (stages (lowest_wrong image) (lowest_barred image)) ≡ Verdict.Accepted → length image ≤ image_out
+        → cond b (Err Refusal.OverLimit) (stages (lowest_wrong image) (lowest_barred image)) ≡ (Ok tt) → length image ≤ image_out
     by true e z = differ (cc)
     by false e z = omega (arith, ltb-false limit (length image) e)
 
 -- SHIM_RUN_OUT: 8,191 bytes are enough for a direct run.
 pub run_out_lem : (number : ℕ) (upstream target stream : List ℕ) {out : List ℕ} {r : Answer} {after : List ℕ}
-    → Delivers (outcome number upstream target stream) out r after → run_out ≤ length out → r ≡ Answer.Refused Refusal.BufferTooSmall → ⊥
+    → Delivers (outcome number upstream target stream) out r after → run_out ≤ length out → r ≡ Err Refusal.BufferTooSmall → ⊥
 run_out_lem number upstream target stream call = never_too_small call run_out (none (run_is number upstream target stream)) short
   where
     none : {g : Given} → RunIs number upstream target stream g → g ≡ refuses Refusal.BufferTooSmall → ⊥
@@ -129,7 +128,7 @@ run_out_lem number upstream target stream call = never_too_small call run_out (n
 
 -- SHIM_IMAGE_RUN_OUT: 8,192 for a run over any image.
 pub image_run_out_lem : (image : List ℕ) (start : ℕ) (stream : List ℕ) {out : List ℕ} {r : Answer} {after : List ℕ}
-    → Delivers (run_over image start stream) out r after → image_run_out ≤ length out → r ≡ Answer.Refused Refusal.BufferTooSmall → ⊥
+    → Delivers (run_over image start stream) out r after → image_run_out ≤ length out → r ≡ Err Refusal.BufferTooSmall → ⊥
 unfolding run_over
 image_run_out_lem image start stream call = never_too_small call image_run_out none short
   where
@@ -146,10 +145,10 @@ image_run_out_lem image start stream call = never_too_small call image_run_out n
     by_stage false b e = differ (cc)
 
     by_verdict : (v : Verdict) → verdict_of image ≡ v → run_as image start stream v ≡ refuses Refusal.BufferTooSmall → ⊥
-    by_verdict (Verdict.Refused why) a e =
+    by_verdict (Err why) a e =
         let seven : why ≡ Refusal.BufferTooSmall = cc in
-        verdict_not_7 image (a ∙ ap Verdict.Refused seven)
-    by_verdict Verdict.Accepted a e = by_stage (ltb start (states_of image)) (leb (length stream) stream_limit) e
+        verdict_not_7 image (a ∙ ap Err seven)
+    by_verdict (Ok tt) a e = by_stage (ltb start (states_of image)) (leb (length stream) stream_limit) e
 
     none : run_over image start stream ≡ refuses Refusal.BufferTooSmall → ⊥
     none e = by_verdict (verdict_of image) refl e
@@ -161,7 +160,7 @@ image_run_out_lem image start stream call = never_too_small call image_run_out n
 
 -- SHIM_IMAGE_LIMIT: 7,168 for an image that is generated,
 pub image_out_lem : (number : ℕ) (upstream target : List ℕ) {out : List ℕ} {r : Answer} {after : List ℕ}
-    → Answers (ImageGiven number upstream target) out r after → image_out ≤ length out → r ≡ Answer.Refused Refusal.BufferTooSmall → ⊥
+    → Answers (ImageGiven number upstream target) out r after → image_out ≤ length out → r ≡ Err Refusal.BufferTooSmall → ⊥
 image_out_lem number upstream target call =
     never_too_small call.delivered image_out (none is) (λ bytes f s e. short is e)
   where
@@ -184,27 +183,27 @@ image_out_lem number upstream target call =
 
 -- and for one that is read and written back.
 pub image_back_out : (image : List ℕ) {out header : List ℕ} {r : Answer} {after : List ℕ} → Rewrites image out header r after → image_out ≤ length out
-    → r ≡ Answer.Refused Refusal.BufferTooSmall → ⊥
+    → r ≡ Err Refusal.BufferTooSmall → ⊥
 unfolding written_back
 image_back_out image call =
     never_too_small call.delivered image_out (λ e. none (verdict_of image) refl e) (λ bytes f s e. short (verdict_of image) refl e)
   where
     none : (v : Verdict) → verdict_of image ≡ v → unless_refused v (gives image 0 0) ≡ refuses Refusal.BufferTooSmall → ⊥
-    none (Verdict.Refused why) a e =
+    none (Err why) a e =
         let seven : why ≡ Refusal.BufferTooSmall = cc in
-        verdict_not_7 image (a ∙ ap Verdict.Refused seven)
-    none Verdict.Accepted a e = differ (cc)
+        verdict_not_7 image (a ∙ ap Err seven)
+    none (Ok tt) a e = differ (cc)
 
     short : (v : Verdict) → verdict_of image ≡ v → {bytes : List ℕ} {f s : ℕ} → unless_refused v (gives image 0 0) ≡ gives bytes f s
         → length bytes ≤ image_out
-    short (Verdict.Refused why) a e = differ (cc)
-    short Verdict.Accepted a {bytes = bytes} e =
+    short (Err why) a e = differ (cc)
+    short (Ok tt) a {bytes = bytes} e =
         let same : image ≡ bytes = cc in
         omega (arith, accepted_short image a, ap length same)
 
 -- an image that is read from a drawing has no more,
 pub undraw_out : (text : List ℕ) {out : List ℕ} {r : Answer} {after : List ℕ} → Answers (Undrawn text) out r after → image_out ≤ length out
-    → r ≡ Answer.Refused Refusal.BufferTooSmall → ⊥
+    → r ≡ Err Refusal.BufferTooSmall → ⊥
 undraw_out text call =
     never_too_small call.delivered image_out (λ e. none call.right e)
     (λ bytes f s e. accepted_short bytes (given_image call.right e).0.accepted)
@@ -216,17 +215,17 @@ undraw_out text call =
 
 -- SHIM_DRAWING_OUT: 135,719 for a drawing.
 pub draw_out : (image : List ℕ) → ((k : ℕ) → at image k < 256) → {out : List ℕ} {r : Answer} {after : List ℕ} → Delivers (drawn image) out r after
-    → drawing_out ≤ length out → r ≡ Answer.Refused Refusal.BufferTooSmall → ⊥
+    → drawing_out ≤ length out → r ≡ Err Refusal.BufferTooSmall → ⊥
 unfolding drawn
 draw_out image small call =
     never_too_small call drawing_out (λ e. none (verdict_of image) refl e) (λ bytes f s e. drawn_short (given_drawing small e).0)
   where
     none : (v : Verdict) → verdict_of image ≡ v
         → unless_refused v (gives (drawing_of (header_of image) (rows_of image)) 0 0) ≡ refuses Refusal.BufferTooSmall → ⊥
-    none (Verdict.Refused why) a e =
+    none (Err why) a e =
         let seven : why ≡ Refusal.BufferTooSmall = cc in
-        verdict_not_7 image (a ∙ ap Verdict.Refused seven)
-    none Verdict.Accepted a e = differ (cc)
+        verdict_not_7 image (a ∙ ap Err seven)
+    none (Ok tt) a e = differ (cc)
 
 -- SHIM_DRAWING_LIMIT: every drawing is within the limit of what is read back.
 pub drawing_within : {image text : List ℕ} → DrawnAs image text → (length text ≤ drawing_out) × (drawing_out ≤ undrawing.limit)
@@ -271,18 +270,18 @@ parts_not_7 : (p : Parts) (g : Given) → PartsListed p g → g ≡ refuses Refu
 parts_not_7 p g = by opening.verdict refl
   where
     opening : Opening
-    opening = opened_by (WayRead.Is p.way) p.upstream p.target
+    opening = opened_by (Some p.way) p.upstream p.target
 
-    by_way : {r : WayRead} → r ≡ WayRead.Is p.way → {why : Refusal} → opening.verdict ≡ Verdict.Refused why
-        → (opened_by r p.upstream p.target).verdict ≡ Verdict.Refused why
-    by_way w e = ap (λ (r : WayRead). (opened_by r p.upstream p.target).verdict) w ∙ e
+    by_way : {r : Option Way} → r ≡ Some p.way → {why : Refusal} → opening.verdict ≡ Err why
+        → (opened_by r p.upstream p.target).verdict ≡ Err why
+    by_way w e = ap (λ (r : Option Way). (opened_by r p.upstream p.target).verdict) w ∙ e
 
     by : (v : Verdict) → opening.verdict ≡ v → GivenUnless v (λ (x : Given). ModelsListed opening.models p.stream x) g
         → g ≡ refuses Refusal.BufferTooSmall → ⊥
-    by (Verdict.Refused why) o h e =
+    by (Err why) o h e =
         let seven : why ≡ Refusal.BufferTooSmall = cc in
         opening_not_7 (opening_told (way_number p.way) p.upstream p.target (by_way (read_written p.way) o)) seven
-    by Verdict.Accepted o h e = run_not_7 h e
+    by (Ok tt) o h e = run_not_7 h e
 
 shape_not_7 : {o : Option Parts} {g : Given} → ShapeListed o g → g ≡ refuses Refusal.BufferTooSmall → ⊥
 shape_not_7 listed.shapeless e = differ (cc)
@@ -294,22 +293,22 @@ listed_not_7 (listed.within l h) e = shape_not_7 h e
 
 -- SHIM_LIST_OUT: 67,261 for a listing.
 pub list_out_lem : (input : List ℕ) {out : List ℕ} {r : Answer} {after : List ℕ} → Answers (Listed input) out r after → list_out ≤ length out
-    → r ≡ Answer.Refused Refusal.BufferTooSmall → ⊥
+    → r ≡ Err Refusal.BufferTooSmall → ⊥
 list_out_lem input call = never_too_small call.delivered list_out (λ e. listed_not_7 call.right e)
     (λ bytes f s e. longest_listing (subst (Listed input) e call.right))
 
 -- SHIM_TEXT_OUT: 739 for a model's text that is read and written back,
 pub text_out_lem : (text : List ℕ) {out : List ℕ} {r : Answer} {after : List ℕ} → Delivers (back_given text) out r after → text_out ≤ length out
-    → r ≡ Answer.Refused Refusal.BufferTooSmall → ⊥
+    → r ≡ Err Refusal.BufferTooSmall → ⊥
 text_out_lem text call = never_too_small call text_out (λ e. none (reading text).verdict refl e) (λ bytes f s e. short (reading text).verdict refl e)
   where
     none : (v : Verdict) → (reading text).verdict ≡ v → unless_refused v (gives text 0 0) ≡ refuses Refusal.BufferTooSmall → ⊥
-    none (Verdict.Refused why) a e =
+    none (Err why) a e =
         let seven : why ≡ Refusal.BufferTooSmall = cc in
-        told_not_7 (told text) (a ∙ ap Verdict.Refused seven)
-    none Verdict.Accepted a e = differ (cc)
+        told_not_7 (told text) (a ∙ ap Err seven)
+    none (Ok tt) a e = differ (cc)
 
-    by_told : {r : Reading} → Told text r → r.verdict ≡ Verdict.Accepted → length text ≤ text_out
+    by_told : {r : Reading} → Told text r → r.verdict ≡ (Ok tt) → length text ≤ text_out
     by_told (over l) e = differ (cc)
     by_told (departs l n h) e = differ (cc)
     by_told (repeated d k l f t s) e = differ (cc)
@@ -317,8 +316,8 @@ text_out_lem text call = never_too_small call text_out (λ e. none (reading text
 
     short : (v : Verdict) → (reading text).verdict ≡ v → {bytes : List ℕ} {f s : ℕ} → unless_refused v (gives text 0 0) ≡ gives bytes f s
         → length bytes ≤ text_out
-    short (Verdict.Refused why) a e = differ (cc)
-    short Verdict.Accepted a {bytes = bytes} e =
+    short (Err why) a e = differ (cc)
+    short (Ok tt) a {bytes = bytes} e =
         let same : text ≡ bytes = cc in
         omega (arith, by_told (told text) a, ap length same)
 
@@ -342,7 +341,7 @@ unfolding built_in four_rows table_in table
 built_short n = each_short built_ins all_short n (model "" none []) (omega arith)
 
 pub builtin_out : (number : ℕ) {out : List ℕ} {r : Answer} {after : List ℕ} → Delivers (built_in_given number) out r after → text_out ≤ length out
-    → r ≡ Answer.Refused Refusal.BufferTooSmall → ⊥
+    → r ≡ Err Refusal.BufferTooSmall → ⊥
 unfolding built_in_reading
 builtin_out number call = never_too_small call text_out (no_7 (ltb 15 number)) (λ bytes f s e. short (ltb 15 number) e)
   where

@@ -1,5 +1,6 @@
 -- Runs over the image of a machine that describes the rule: the walk is the machine's run, which is the rule's, so it is the direct run, of any
 -- length and in as many blocks as there are. Assumes nothing.
+use Rattle.std.proofs.Common.{Option, Some, None, Ok, Err}
 use Prim.Native.Nat.{ℕ, ◌+◌, ◌<◌, ◌≤◌}
 use mathlib.Core.Path.{◌≡◌, refl, sym, ap, ap₂, subst, subst₂, ◌∙◌}
 use mathlib.Core.Bool.{Bool, true, false, cond}
@@ -12,12 +13,11 @@ use lib.Dec.{leb}
 use lib.ListN.{length}
 use Rattle.ground.proofs.Truths.{differ}
 use Rattle.answers.specs.declared.Refusal.{Refusal}
-use Rattle.answers.specs.declared.Answer.{Answer}
-use Rattle.answers.specs.declared.Verdict.{Verdict}
+use Rattle.answers.specs.Answer.{Answer, done}
+use Rattle.answers.specs.Answer.{Verdict}
 use Rattle.answers.specs.Buffer.{answer_with}
 use Rattle.answers.specs.Given.{Given, gives, refuses, answer_of, buffer_of, Delivers}
 use Rattle.operations.specs.declared.Operation.{Operation}
-use Rattle.operations.specs.declared.Byte.{Byte}
 use Rattle.operations.specs.Operation.{byte_is, byte_of, fence_bytes}
 use Rattle.operations.specs.Alphabet.{access_letters, letters_with, letter_in}
 use Rattle.operations.proofs.Letters.{letter_few, operation_of_letter}
@@ -55,17 +55,17 @@ use Rattle.demands.proofs.Walking.{walk_of, told_machine, walks_as_told}
 
 -- what a call over an image gives by its walk, and what it has gone through where it gives bytes
 module _ (image : List ℕ) (s : ℕ) (stream : List ℕ) where
-  pub over_walk : verdict_of image ≡ Verdict.Accepted → s < states_of image → length stream ≤ 4096
+  pub over_walk : verdict_of image ≡ (Ok tt) → s < states_of image → length stream ≤ 4096
       → run_over image s stream ≡ outcome_of (walked image s stream)
   unfolding run_over
   over_walk a l k = rw (a, lt-ltb s (states_of image) l, le-leb (length stream) 4096 k)
 
-  pub over_long : verdict_of image ≡ Verdict.Accepted → s < states_of image → 4096 < length stream → run_over image s stream ≡ refuses Refusal.OverLimit
+  pub over_long : verdict_of image ≡ (Ok tt) → s < states_of image → 4096 < length stream → run_over image s stream ≡ refuses Refusal.OverLimit
   unfolding run_over
   over_long a l k = rw (a, lt-ltb s (states_of image) l, lt-leb (length stream) 4096 k)
 
   pub record Walks (bytes : List ℕ) (fences t : ℕ) : Type 0 where
-    pub accepted : verdict_of image ≡ Verdict.Accepted
+    pub accepted : verdict_of image ≡ (Ok tt)
     pub start : s < states_of image
     pub within : length stream ≤ 4096
     pub ends_so : walked image s stream ≡ ended bytes fences t
@@ -84,15 +84,15 @@ module _ (image : List ℕ) (s : ℕ) (stream : List ℕ) where
 
       by : (v : Verdict) → verdict_of image ≡ v → Dec (s < states_of image) → Dec (length stream ≤ 4096)
           → run_as image s stream v ≡ gives bytes fences t → Walks bytes fences t
-      by (Verdict.Refused why) a l k z = differ (cc)
-      by Verdict.Accepted a (no l) k z =
+      by (Err why) a l k z = differ (cc)
+      by (Ok tt) a (no l) k z =
           let w : refuses Refusal.OutOfRange ≡ gives bytes fences t = rw (le-ltb s (states_of image) (omega arith)) at z in
           differ (cc)
-      by Verdict.Accepted a (yes l) (no k) z =
+      by (Ok tt) a (yes l) (no k) z =
           let w : refuses Refusal.OverLimit ≡ gives bytes fences t
           = rw (lt-ltb s (states_of image) l, lt-leb (length stream) 4096 (omega arith)) at z in
           differ (cc)
-      by Verdict.Accepted a (yes l) (yes k) z =
+      by (Ok tt) a (yes l) (yes k) z =
           let w : outcome_of (walked image s stream) ≡ gives bytes fences t
           = rw (lt-ltb s (states_of image) l, le-leb (length stream) 4096 k) at z in
           record { accepted = a; start = l; within = k; ends_so = walk (walked image s stream) w }
@@ -107,8 +107,8 @@ unfolding answer_with
 answer_in t room (refuses why) = refl
 answer_in t room (gives bytes n s) = by (leb (length bytes) room)
   where
-    by : (b : Bool) → cond b (Answer.Done (length bytes) n t) (Answer.Refused Refusal.BufferTooSmall)
-        ≡ ending_in t (cond b (Answer.Done (length bytes) n s) (Answer.Refused Refusal.BufferTooSmall))
+    by : (b : Bool) → cond b (Ok (done (length bytes) n t)) (Err Refusal.BufferTooSmall)
+        ≡ ending_in t (cond b (Ok (done (length bytes) n s)) (Err Refusal.BufferTooSmall))
     by true = refl
     by false = refl
 
@@ -157,9 +157,9 @@ reads_append [] y [] t p q = q
 reads_append [] y (op ∷ s) t p q = differ (cc)
 reads_append (b ∷ x) y [] t p q = differ (cc)
 reads_append (b ∷ x) y (op ∷ s) t p q =
-    let first : byte_is b ≡ Byte.Is op = cc in
+    let first : byte_is b ≡ Some op = cc in
     let rest : StreamIn x s = cc in
-    ap₂ (λ (c : Byte) (l : List Byte). c ∷ l) first (reads_append x y s t rest q)
+    ap₂ (λ (c : Option Operation) (l : List Option Operation). c ∷ l) first (reads_append x y s t rest q)
 
 below_append : (n : ℕ) (s t : Stream) → Below n s → Below n t → Below n (s ++ t)
 below_append n [] t p q = q
@@ -231,18 +231,18 @@ module _ {m : Models} {image : List ℕ} (i : MinimalImage m image) where
         short = s.fault.2;
         none_will_do = s.fault.3;
       }) in
-      let reads = reads_append s.first (s.byte ∷ []) s.input (access k) s.input_read (ap (λ (b : Byte). b ∷ []) s.fault.1) in
+      let reads = reads_append s.first (s.byte ∷ []) s.input (access k) s.input_read (ap (λ (b : Option Operation). b ∷ []) s.fault.1) in
       let own = below_append (length (up m).fences) s.input (access k) s.input_own tt in
       let whole : stream ≡ bytes ++ s.rest = s.split ∙ sym (append_assoc s.first (s.byte ∷ []) s.rest) in
       ap (walked image 0) whole
       ∙ walks.goes_on image 0 bytes s.rest
       ∙ ap (λ (r : Walked). then (length bytes) r (λ (t : ℕ). walked image t s.rest)) (walk_is bytes input reads own (refused place) no)
 
-  no_operation_step : (b t : ℕ) → byte_is b ≡ Byte.Nothing → step_at image t b ≡ Step.Stopped Stop.NoOperation
+  no_operation_step : (b t : ℕ) → byte_is b ≡ None → step_at image t b ≡ Step.Stopped Stop.NoOperation
   unfolding step_at
   no_operation_step b t e = ap (step_as image t) e
 
-  no_fence_step : (b f t : ℕ) → byte_is b ≡ Byte.Is (Operation.Fence f) → length (up m).fences ≤ f → step_at image t b ≡ Step.Stopped Stop.NoSuchFence
+  no_fence_step : (b f t : ℕ) → byte_is b ≡ Some (Operation.Fence f) → length (up m).fences ≤ f → step_at image t b ≡ Step.Stopped Stop.NoSuchFence
   unfolding step_at
   no_fence_step b f t e l = rw (e, le-ltb f (upstream_fences_of image) (omega (arith, i.upstream_fences)))
 

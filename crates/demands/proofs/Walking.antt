@@ -1,5 +1,6 @@
 -- A run over an image and the run of the machine that its bytes tell are the same, operation by operation: an entry's bytes are what both answer by.
 -- This holds of all bytes, whether or not they are an image. Assumes nothing.
+use Rattle.std.proofs.Common.{Some}
 use Prim.Native.Nat.{ℕ, suc, ◌+◌, ◌-◌, ◌*◌}
 use mathlib.Core.Path.{◌≡◌, refl, sym, ap, ap₂, ◌∙◌}
 use mathlib.Core.Bool.{Bool, true, false, cond}
@@ -11,7 +12,6 @@ use Rattle.ground.specs.Bytes.{at}
 use Rattle.ground.proofs.Truths.{differ}
 use Rattle.operations.specs.declared.Kind.{Kind}
 use Rattle.operations.specs.declared.Operation.{Operation}
-use Rattle.operations.specs.declared.Byte.{Byte}
 use Rattle.operations.specs.Operation.{byte_is, fence_byte, byte_of}
 use Rattle.operations.specs.Alphabet.{access_letters, letters_with, letter_of, letter_in}
 use Rattle.operations.proofs.Bytes.{written_read}
@@ -95,7 +95,7 @@ module _ (image : List ℕ) where
   abbrev pub told_machine : Machine ℕ Stream
   told_machine = spelling (numbered (letters_with (upstream_fences_of image)) (entry_answer image))
 
-  step_alike : (s b : ℕ) (op : Operation) → byte_is b ≡ Byte.Is op → OfN (upstream_fences_of image) op
+  step_alike : (s b : ℕ) (op : Operation) → byte_is b ≡ Some op → OfN (upstream_fences_of image) op
       → SameStep b (step_at image s b) (told_machine.step s (letter_in op))
   unfolding step_at
   step_alike s b (Operation.Access k) e h =

@@ -1,11 +1,10 @@
 -- The direct run as its caller sees it: what an accepted call has done, by its numbers and the buffer after it, and when a call is refused.
 -- Document 01: "4: a byte is no operation", "5: the upstream model has no such fence", "6: no fence will do for the way", each at its index;
 -- "Order: way ..; upstream text (1, 2, 3); target text; ..; stream length; the earliest of 4, 5, 6 in the stream; ..; 7 last."
-use Rattle.std.specs.Prelude.{ℕ, ◌<◌, ◌≤◌, ◌≡◌, false, List, ◌∷◌, ◌++◌, length, take, drop}
+use Rattle.std.specs.Prelude.{ℕ, ◌<◌, ◌≤◌, ◌≡◌, false, List, ◌∷◌, ◌++◌, length, take, drop, Some, None}
 use Rattle.answers.specs.declared.Refusal.{Refusal}
 use Rattle.operations.specs.declared.Kind.{Kind}
 use Rattle.operations.specs.declared.Operation.{Operation}
-use Rattle.operations.specs.declared.Byte.{Byte}
 use Rattle.operations.specs.Operation.{byte_is}
 use Rattle.rule.specs.Stream.{Stream, fence}
 use Rattle.rule.specs.Stream as streams
@@ -50,15 +49,15 @@ pub record StopsAt (m : Models) (stream : List ℕ) (place : ℕ) (Fault : ℕ �
 
 -- the faults: 4, 5 and 6
 abbrev pub Fault4 : Models → ℕ → Stream → Stream → Type 0
-Fault4 m b input output = byte_is b ≡ Byte.Nothing
+Fault4 m b input output = byte_is b ≡ None
 
 abbrev pub Fault5 : Models → ℕ → Stream → Stream → Type 0
-Fault5 m b input output = (f : ℕ) × (byte_is b ≡ Byte.Is (Operation.Fence f)) × (length (up m).fences ≤ f)
+Fault5 m b input output = (f : ℕ) × (byte_is b ≡ Some (Operation.Fence f)) × (length (up m).fences ≤ f)
 
 -- an access at which a pair would be short, and after no fence that the way may take would none be
 abbrev pub Fault6 : Models → ℕ → Stream → Stream → Type 0
 Fault6 m b input output =
-    (k : Kind) × (byte_is b ≡ Byte.Is (Operation.Access k)) × (settled (up m) (on m) input output k ≡ false)
+    (k : Kind) × (byte_is b ≡ Some (Operation.Access k)) × (settled (up m) (on m) input output k ≡ false)
     × NoneWillDo m.way (λ (g : ℕ). settled (up m) (on m) input (output ++ fence g) k) (length (on m).fences)
 
 -- the rule accepts the whole stream

@@ -1,9 +1,9 @@
 -- A machine as the bytes of its image tell it, and a thread that is passed through it block by block. Document 01, "The machine image": "for l, L,
 -- s, S a fence byte (a number, FF none, FE refused) with the next state (0 where refused), then sixteen next states for upstream fences".
-use Rattle.std.specs.Prelude.{ℕ, ◌+◌, ◌-◌, ◌*◌, ◌<◌, ◌≡◌, cond, List, [], ◌++◌, map, ltb, eqb, length, take}
+use Rattle.std.specs.Prelude.{ℕ, ◌+◌, ◌-◌, ◌*◌, ◌<◌, ◌≡◌, cond, List, [], ◌++◌, map, ltb, eqb, length, take, Ok}
 use Rattle.ground.specs.Bytes.{at}
 use Rattle.answers.specs.declared.Answer as answers
-use Rattle.answers.specs.declared.Verdict.{Verdict}
+use Rattle.answers.specs.Answer.{Verdict}
 use Rattle.answers.specs.Buffer.{buffer_with, answer_with}
 use Rattle.answers.specs.Given.{refuses, Delivers}
 use Rattle.operations.specs.Operation.{fence_bytes}
@@ -38,7 +38,7 @@ entry_answer image state a =
 -- These bytes are the image of the minimal machine of two models: it is accepted, its header has their way, fences and names, and the entries of its
 -- states, as many as its byte 4 says, describe the rule's own machine.
 pub record MinimalImage (m : Models) (image : List ℕ) : Type 0 where
-  pub accepted : verdict_of image ≡ Verdict.Accepted
+  pub accepted : verdict_of image ≡ (Ok tt)
   pub way : at image 3 ≡ way_number m.way
   pub upstream_fences : upstream_fences_of image ≡ length (up m).fences
   pub target_fences : target_fences_of image ≡ length (on m).fences
@@ -60,7 +60,7 @@ SameFuture m v out w out' = (x : Stream) → Own (up m) x → onward m.way (up m
 pub data Thread (image : List ℕ) : ℕ → List ℕ → List ℕ → ℕ → Type 0 where
   fresh : Thread image 0 [] [] 0
   block : {state next inserted written fences : ℕ} {given put out after : List ℕ} → Thread image state given put inserted
-      → (bytes : List ℕ) → Delivers (run_over image state bytes) out (answers.Answer.Done written fences next) after
+      → (bytes : List ℕ) → Delivers (run_over image state bytes) out (Answer.Done written fences next) after
       → Thread image next (given ++ bytes) (put ++ take written after) (inserted + fences)
 
 -- what a thread has done: one run of the rule over all of it
@@ -85,5 +85,5 @@ pub data AsOneStream (m : Models) (image given put bytes out : List ℕ) : answe
 
 -- the same answer but for the end state, which a direct run does not tell
 abbrev pub ending_in : ℕ → answers.Answer → answers.Answer
-ending_in state (answers.Answer.Done written fences other) = answers.Answer.Done written fences state
+ending_in state (Answer.Done written fences other) = Answer.Done written fences state
 ending_in state (answers.Answer.Refused why) = answers.Answer.Refused why

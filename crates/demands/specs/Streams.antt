@@ -1,12 +1,11 @@
 -- Bytes as a stream of operations, and what is said of an input and an output. Document 01, "Streams and the rule"; the demands: "The output
 -- carries the input's accesses in order. Every pair that the upstream model orders is kept at that strength by the target's default or by one fence
 -- between the two. A fence stands before an access exactly when a pair ending there would otherwise fall short".
-use Rattle.std.specs.Prelude.{ℕ, ◌<◌, ◌≤◌, ◌≡◌, true, ◌⊎◌, List, ◌++◌, map, length}
+use Rattle.std.specs.Prelude.{ℕ, ◌<◌, ◌≤◌, ◌≡◌, true, ◌⊎◌, List, ◌++◌, map, length, Some}
 use Rattle.tables.specs.declared.table.Row.{Row}
 use Rattle.tables.specs.declared.table.Column.{Column}
 use Rattle.tables.specs.Table.{cell}
 use Rattle.operations.specs.declared.Operation.{Operation}
-use Rattle.operations.specs.declared.Byte.{Byte}
 use Rattle.operations.specs.Operation.{byte_is}
 use Rattle.rule.specs.declared.way.Way.{Way}
 use Rattle.rule.specs.Stream.{Stream, fence, count, kind_at, HasFence, before, between, through}
@@ -16,7 +15,7 @@ use Rattle.rule.specs.Rule.{Takes, done, run, Placing, every_fence}
 
 -- each byte is the operation in its place
 abbrev pub StreamIn : List ℕ → Stream → Type 0
-StreamIn bytes s = map byte_is bytes ≡ map (λ (op : Operation). Byte.Is op) s
+StreamIn bytes s = map byte_is bytes ≡ map (λ (op : Operation). Some op) s
 
 -- its fences are the model's
 abbrev pub Own : Model → Stream → Type 0

@@ -1,4 +1,5 @@
 -- What is drawn of an image is the drawing of the machine that was read, since the rows that were read into have room for it. Assumes nothing.
+use Rattle.std.proofs.Common.{Ok, Err}
 use Prim.Native.Nat.{ℕ, ◌*◌, ◌<◌, ◌≤◌}
 use mathlib.Core.Path.{◌≡◌, sym, ap, ap₂, subst, ◌∙◌}
 use mathlib.Core.List.{List}
@@ -6,8 +7,8 @@ use native.Mathlib.Omega.{arith}
 use lib.ListN.{length, take, replicate}
 use Rattle.ground.specs.Bytes.{at}
 use Rattle.answers.specs.declared.Refusal.{Refusal}
-use Rattle.answers.specs.declared.Answer.{Answer}
-use Rattle.answers.specs.declared.Verdict.{Verdict}
+use Rattle.answers.specs.Answer.{Answer}
+use Rattle.answers.specs.Answer.{Verdict}
 use Rattle.answers.specs.Given.{gives, Delivers, unless_refused}
 use Rattle.answers.proofs.Given.{delivers_refusal, delivers_as}
 use Rattle.operations.specs.Alphabet.{stride}
@@ -23,14 +24,14 @@ use Rattle.drawing.specs.Calls.{drawn}
 
 module _ (image : List ℕ) (bytes : (i : ℕ) → at image i < 256) (r : Reading) (rows : List ℕ)
     (reads : ReadsTo image (replicate (255 * stride) 0) r rows) where
-  pub drawn_refused : (why : Refusal) (out : List ℕ) → r.verdict ≡ Verdict.Refused why → Delivers (drawn image) out (Answer.Refused why) out
+  pub drawn_refused : (why : Refusal) (out : List ℕ) → r.verdict ≡ Err why → Delivers (drawn image) out (Err why) out
   unfolding drawn
   drawn_refused why out v =
       delivers_as
       (ap (λ (v : Verdict). unless_refused v (gives (drawing_of (header_of image) (rows_of image)) 0 0)) (sym v ∙ verdict_is image bytes r rows reads))
       (delivers_refusal out)
 
-  module _ (v : r.verdict ≡ Verdict.Accepted) (n : ℕ) (states : n ≡ r.header.states) where
+  module _ (v : r.verdict ≡ (Ok tt)) (n : ℕ) (states : n ≡ r.header.states) where
     header : r.header ≡ header_of image
     header = header_is image bytes r rows reads v
 

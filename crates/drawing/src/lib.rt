@@ -37,8 +37,8 @@ pub fn draw(image: &[u8], out: &mut [u8]) -> Answer
     let verdict = reading.verdict;
     let header = reading.header;
     match verdict {
-        Verdict::Refused(why) => Answer::Refused(why),
-        Verdict::Accepted => {
+        Err(why) => Err(why),
+        Ok(()) => {
             let n = ground::wide(header.states) * STRIDE;
             write_drawing(header, &rows[..n], out)
         }

@@ -1,5 +1,6 @@
 -- The parts of an edge, one behind another: each is told by one text at most, has a text, and is found as its first part and then the rest are.
 -- Assumes nothing.
+use Rattle.std.proofs.Common.{Ok, Err}
 use Prim.Native.Nat.{ℕ, zero, suc, ◌+◌, ◌*◌, ◌≤◌, ◌<◌}
 use mathlib.Core.Path.{◌≡◌, sym, ap, subst, ◌∙◌}
 use mathlib.Core.Bool.{Bool, true, false, not, ◌&&◌}
@@ -18,8 +19,8 @@ use Rattle.operations.specs.Operation.{byte_of}
 use Rattle.operations.specs.Alphabet.{access_letters, operation_of}
 use Rattle.operations.proofs.Bytes.{low_fence, high_fence, no_fence_lem}
 use Rattle.printing.specs.Decimal.{decimal}
-use Rattle.texts.specs.declared.Step.{Step}
-use Rattle.texts.specs.declared.Part.{Part}
+use Rattle.texts.specs.Step.{Step}
+use Rattle.texts.specs.Step.{Part}
 use Rattle.texts.specs.Pattern.{is_word, follow_at}
 use Rattle.texts.specs.NumberPart.{is_digit, number_at}
 use Rattle.texts.specs.Language.{Telling, Any, Some, Unique}
@@ -52,16 +53,16 @@ middle_word letter =
 
 -- a word that was followed
 module _ (w : List ℕ) (word : T (is_word w)) {t : List ℕ} {at : ℕ} {r : Step} (is : r ≡ follow_at w t at) where
-  pub word_stops : {B : Type 0} {p : ℕ} (M : Telling B) → Some (Any M) → r ≡ Step.Stuck p → Finds (Then (Word w) (λ _. M)) t at (stopped p)
+  pub word_stops : {B : Type 0} {p : ℕ} (M : Telling B) → Some (Any M) → r ≡ Err p → Finds (Then (Word w) (λ _. M)) t at (stopped p)
   word_stops M some e = then_stops (Word w) (λ _. M) t at (λ _. some) (word_stuck w t at word is e)
 
-  pub word_goes : {B : Type 0} {p : ℕ} (M : Telling B) → r ≡ Step.Next p → {x : Taken B} → Finds M t p x → Finds (Then (Word w) (λ _. M)) t at x
+  pub word_goes : {B : Type 0} {p : ℕ} (M : Telling B) → r ≡ Ok p → {x : Taken B} → Finds M t p x → Finds (Then (Word w) (λ _. M)) t at x
   word_goes M e h = then_goes (Word w) (λ _. M) t at (unique_word w) (word_found w t at word is e) h
 
-  pub last_stops : {p : ℕ} (v : ℕ) → r ≡ Step.Stuck p → Finds (Through (λ _. v) (Word w)) t at (stopped p)
+  pub last_stops : {p : ℕ} (v : ℕ) → r ≡ Err p → Finds (Through (λ _. v) (Word w)) t at (stopped p)
   last_stops v e = through_stopped (λ _. v) (Word w) t at (word_stuck w t at word is e)
 
-  pub last_goes : {p : ℕ} (v : ℕ) → r ≡ Step.Next p → Finds (Through (λ _. v) (Word w)) t at (took p v)
+  pub last_goes : {p : ℕ} (v : ℕ) → r ≡ Ok p → Finds (Through (λ _. v) (Word w)) t at (took p v)
   last_goes v e = through_took (λ _. v) (Word w) t at (word_found w t at word is e)
 
 unique_last : (w : List ℕ) (v : ℕ) → Unique (Through (λ _. v) (Word w))
@@ -93,18 +94,18 @@ some_refused : (letter : ℕ) → Some (Any (Refused letter))
 some_refused letter = some_behind (bytes "refused ") (RefusedLabel letter) (some_refused_label letter)
 
 module _ (letter : ℕ) {t : List ℕ} {at p : ℕ} {r : Step} where
-  pub refused_label_stops : r ≡ follow_at (middle letter) t at → r ≡ Step.Stuck p → Finds (RefusedLabel letter) t at (stopped p)
+  pub refused_label_stops : r ≡ follow_at (middle letter) t at → r ≡ Err p → Finds (RefusedLabel letter) t at (stopped p)
   refused_label_stops is =
       word_stops (middle letter) (middle_word letter) is RefusedMark some_refused_mark
 
-  pub refused_label_goes : r ≡ follow_at (middle letter) t at → r ≡ Step.Next p → {x : Taken ℕ}
+  pub refused_label_goes : r ≡ follow_at (middle letter) t at → r ≡ Ok p → {x : Taken ℕ}
       → Finds RefusedMark t p x → Finds (RefusedLabel letter) t at x
   refused_label_goes is = word_goes (middle letter) (middle_word letter) is RefusedMark
 
-  pub refused_stops : r ≡ follow_at (bytes "refused ") t at → r ≡ Step.Stuck p → Finds (Refused letter) t at (stopped p)
+  pub refused_stops : r ≡ follow_at (bytes "refused ") t at → r ≡ Err p → Finds (Refused letter) t at (stopped p)
   refused_stops is = word_stops (bytes "refused ") tt is (RefusedLabel letter) (some_refused_label letter)
 
-  pub refused_goes : r ≡ follow_at (bytes "refused ") t at → r ≡ Step.Next p → {x : Taken ℕ} → Finds (RefusedLabel letter) t p x
+  pub refused_goes : r ≡ follow_at (bytes "refused ") t at → r ≡ Ok p → {x : Taken ℕ} → Finds (RefusedLabel letter) t p x
       → Finds (Refused letter) t at x
   refused_goes is = word_goes (bytes "refused ") tt is (RefusedLabel letter)
 
@@ -130,24 +131,24 @@ module _ (marks next : ℕ) {t : List ℕ} {at : ℕ} {r : Part} (found : Finds 
   mark_is e = subst (λ (s : Part). Finds (MarkPart marks) t at (part_taken s)) e found
 
   -- so the word's sum fits
-  pub fence_small : marks ≤ 16 → {p fence : ℕ} → r ≡ Part.Next p fence → fence ≤ 255
+  pub fence_small : marks ≤ 16 → {p fence : ℕ} → r ≡ Ok (p, fence) → fence ≤ 255
   fence_small few e = small (mark_is e)
     where
       small : {p fence : ℕ} → Finds (MarkPart marks) t at (took p fence) → fence ≤ 255
       small (finds f ln m) = mark_small few m
 
-  pub marked_stops : {p : ℕ} → r ≡ Part.Stuck p → Finds (Marked marks next) t at (stopped p)
+  pub marked_stops : {p : ℕ} → r ≡ Err p → Finds (Marked marks next) t at (stopped p)
   marked_stops e = then_stops (MarkPart marks) (MarkEnd next) t at (some_mark_end next) (mark_is e)
 
-  pub marked_goes : marks ≤ 16 → {p : ℕ} (fence : ℕ) → r ≡ Part.Next p fence → {x : Taken ℕ}
+  pub marked_goes : marks ≤ 16 → {p : ℕ} (fence : ℕ) → r ≡ Ok (p, fence) → {x : Taken ℕ}
       → Finds (MarkEnd next fence) t p x → Finds (Marked marks next) t at x
   marked_goes few fence e h = then_goes (MarkPart marks) (MarkEnd next) t at (unique_mark marks few) (mark_is e) h
 
 module _ (marks letter next : ℕ) {t : List ℕ} {at p : ℕ} {r : Step} (is : r ≡ follow_at (middle letter) t at) where
-  pub led_label_stops : r ≡ Step.Stuck p → Finds (LedLabel marks letter next) t at (stopped p)
+  pub led_label_stops : r ≡ Err p → Finds (LedLabel marks letter next) t at (stopped p)
   led_label_stops = word_stops (middle letter) (middle_word letter) is (Marked marks next) (some_marked marks next)
 
-  pub led_label_goes : r ≡ Step.Next p → {x : Taken ℕ} → Finds (Marked marks next) t p x → Finds (LedLabel marks letter next) t at x
+  pub led_label_goes : r ≡ Ok p → {x : Taken ℕ} → Finds (Marked marks next) t p x → Finds (LedLabel marks letter next) t at x
   led_label_goes = word_goes (middle letter) (middle_word letter) is (Marked marks next)
 
 -- where an edge leads to a state: a blank is no digit, so the number ends there
@@ -163,16 +164,16 @@ module _ (states marks letter : ℕ) (some : 1 ≤ states) where
   some_led = some_then (Numbered states 32) (LedLabel marks letter) (some_numbered states 32 some) (some_led_label marks letter)
 
   module _ (t : List ℕ) (at : ℕ) {r : Part} (is : r ≡ number_at states 32 t at) where
-    pub next_small : {p next : ℕ} → r ≡ Part.Next p next → next < states
+    pub next_small : {p next : ℕ} → r ≡ Ok (p, next) → next < states
     next_small e = small (number_found states 32 some t at is e)
       where
         small : {p next : ℕ} → Finds (Numbered states 32) t at (took p next) → next < states
         small (finds f ln m) = m.0
 
-    pub led_stops : {p : ℕ} → r ≡ Part.Stuck p → Finds (Led states marks letter) t at (stopped p)
+    pub led_stops : {p : ℕ} → r ≡ Err p → Finds (Led states marks letter) t at (stopped p)
     led_stops e = then_stops (Numbered states 32) (LedLabel marks letter) t at (some_led_label marks letter) (number_stuck states 32 some t at is e)
 
-    pub led_goes : {p : ℕ} (next : ℕ) → r ≡ Part.Next p next → {x : Taken ℕ} → Finds (LedLabel marks letter next) t p x
+    pub led_goes : {p : ℕ} (next : ℕ) → r ≡ Ok (p, next) → {x : Taken ℕ} → Finds (LedLabel marks letter next) t p x
         → Finds (Led states marks letter) t at x
     led_goes next e h = then_goes (Numbered states 32) (LedLabel marks letter) t at (unique_numbered states 32 blank)
         (number_found states 32 some t at is e) h
@@ -261,9 +262,9 @@ module _ (sh : Shape) (shaped : Shaped sh) where
           (λ e. ne (sym (first_at t at b is) ∙ e)) h)
 
   module _ (state letter : ℕ) {t : List ℕ} {at : ℕ} {r : Step} (is : r ≡ follow_at (decimal state ++ bytes " -> ") t at) {p : ℕ} where
-    pub edge_stops : r ≡ Step.Stuck p → Finds (EdgePart sh state letter) t at (stopped p)
+    pub edge_stops : r ≡ Err p → Finds (EdgePart sh state letter) t at (stopped p)
     edge_stops =
         word_stops (decimal state ++ bytes " -> ") (arrow_word state) is (EdgeEnd sh letter) (some_end (ltb letter access_letters) letter)
 
-    pub edge_goes : r ≡ Step.Next p → {x : Taken ℕ} → Finds (EdgeEnd sh letter) t p x → Finds (EdgePart sh state letter) t at x
+    pub edge_goes : r ≡ Ok p → {x : Taken ℕ} → Finds (EdgeEnd sh letter) t p x → Finds (EdgePart sh state letter) t at x
     edge_goes = word_goes (decimal state ++ bytes " -> ") (arrow_word state) is (EdgeEnd sh letter)

@@ -1,4 +1,5 @@
 -- A mark is one byte, and tells its fence: a byte names at most one, and what it names is written by it. Assumes nothing.
+use Rattle.std.proofs.Common.{Option, Some, None}
 use Prim.Native.Nat.{ℕ, zero, suc, ◌+◌, ◌≤◌, ◌<◌, zero-le}
 use mathlib.Core.Path.{◌≡◌, refl, sym, ap, ◌∙◌}
 use mathlib.Core.Bool.{Bool, cond}
@@ -12,7 +13,6 @@ use lib.ListN.{length, take, drop, get_or, length-drop}
 use lib.Seq.{drop-cons, get_or-drop, length-take-le}
 use Rattle.operations.specs.declared.Kind.{Kind}
 use Rattle.operations.specs.declared.Operation.{Operation}
-use Rattle.operations.specs.declared.Byte.{Byte}
 use Rattle.operations.specs.Operation.{byte_is, fence_byte}
 use Rattle.operations.specs.Alphabet.{fence_mark}
 use Rattle.operations.proofs.Bytes.{fence_read, written_read}
@@ -35,22 +35,22 @@ mark_of_number : (b n : ℕ) → n ≡ fence_number b → n < 16 → fence_mark 
 unfolding fence_number
 mark_of_number b n e l = by (byte_is b) refl e
   where
-    by : (x : Byte) → byte_is b ≡ x → n ≡ fence_in x → fence_mark n ≡ b
-    by (Byte.Is (Operation.Fence m)) is e = low_mark n l ∙ ap fence_byte e ∙ written_read b (Operation.Fence m) is
-    by (Byte.Is (Operation.Access k)) is e = absurd (omega arith)
-    by Byte.Nothing is e = absurd (omega arith)
+    by : (x : Option Operation) → byte_is b ≡ x → n ≡ fence_in x → fence_mark n ≡ b
+    by (Some (Operation.Fence m)) is e = low_mark n l ∙ ap fence_byte e ∙ written_read b (Operation.Fence m) is
+    by (Some (Operation.Access k)) is e = absurd (omega arith)
+    by None is e = absurd (omega arith)
 
 -- what a byte was read as names the fence
-module _ (b : ℕ) {x : Byte} (is : x ≡ byte_is b) where
-  pub named_fence : {op : Operation} {n : ℕ} → x ≡ Byte.Is op → op ≡ Operation.Fence n → n ≡ fence_number b
+module _ (b : ℕ) {x : Option Operation} (is : x ≡ byte_is b) where
+  pub named_fence : {op : Operation} {n : ℕ} → x ≡ Some op → op ≡ Operation.Fence n → n ≡ fence_number b
   unfolding fence_number
-  named_fence e f = sym (ap (λ (o : Operation). fence_in (Byte.Is o)) f) ∙ ap fence_in (sym e ∙ is)
+  named_fence e f = sym (ap (λ (o : Operation). fence_in (Some o)) f) ∙ ap fence_in (sym e ∙ is)
 
-  pub named_access : {op : Operation} {k : Kind} → x ≡ Byte.Is op → op ≡ Operation.Access k → 16 ≡ fence_number b
+  pub named_access : {op : Operation} {k : Kind} → x ≡ Some op → op ≡ Operation.Access k → 16 ≡ fence_number b
   unfolding fence_number
-  named_access e f = sym (ap (λ (o : Operation). fence_in (Byte.Is o)) f) ∙ ap fence_in (sym e ∙ is)
+  named_access e f = sym (ap (λ (o : Operation). fence_in (Some o)) f) ∙ ap fence_in (sym e ∙ is)
 
-  pub named_nothing : x ≡ Byte.Nothing → 16 ≡ fence_number b
+  pub named_nothing : x ≡ None → 16 ≡ fence_number b
   unfolding fence_number
   named_nothing e = ap fence_in (sym e ∙ is)
 

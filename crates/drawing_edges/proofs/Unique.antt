@@ -1,9 +1,10 @@
 -- The contract of the public function allows one result: a text has one edge of the shape at a place, or departs from every one at one place.
 -- Assumes nothing.
+use Rattle.std.proofs.Common.{Ok, Err}
 use Prim.Native.Nat.{ℕ}
 use mathlib.Core.Path.{◌≡◌}
 use mathlib.Core.List.{List}
-use Rattle.texts.specs.declared.Part.{Part}
+use Rattle.texts.specs.Step.{Part}
 use Rattle.texts.specs.Telling.{part_taken, Finds}
 use Rattle.texts.proofs.Telling.{finds_one}
 use Rattle.drawing_edges.specs.declared.Shape.{Shape}
@@ -12,10 +13,10 @@ use Rattle.drawing_edges.proofs.EdgeParts.{unique_edge}
 use Rattle.drawing_edges.proofs.Shapes.{nearest_shaped}
 
 same : (r r' : Part) → part_taken r ≡ part_taken r' → r ≡ r'
-same (Part.Next p n) (Part.Next q m) e = cc
-same (Part.Next p n) (Part.Stuck q) e = cc
-same (Part.Stuck p) (Part.Next q m) e = cc
-same (Part.Stuck p) (Part.Stuck q) e = cc
+same (Ok (p, n)) (Ok (q, m)) e = cc
+same (Ok (p, n)) (Err q) e = cc
+same (Err p) (Ok (q, m)) e = cc
+same (Err p) (Err q) e = cc
 
 pub edge_line_one : (text : List ℕ) (at : ℕ) (sh : Shape) (state letter : ℕ) {r r' : Part}
     → Finds (EdgePart (nearest sh) state letter) text at (part_taken r)

@@ -1,8 +1,7 @@
 -- An edge of a drawing as a part of its text: it tells its word, 256 times the fence byte and the next state.
-use Rattle.std.specs.Prelude.{ℕ, ◌+◌, ◌*◌, ◌≤◌, ◌<◌, max, min, ◌≡◌, Bool, true, false, ◌⊎◌, List, [], ◌∷◌, ◌++◌, ltb}
+use Rattle.std.specs.Prelude.{ℕ, ◌+◌, ◌*◌, ◌≤◌, ◌<◌, max, min, ◌≡◌, Bool, true, false, ◌⊎◌, List, [], ◌∷◌, ◌++◌, ltb, Option, Some, None}
 use Rattle.ground.specs.Bytes.{bytes}
 use Rattle.operations.specs.declared.Operation.{Operation}
-use Rattle.operations.specs.declared.Byte.{Byte}
 use Rattle.operations.specs.Operation.{byte_is, byte_of}
 use Rattle.operations.specs.Alphabet.{access_letters, stride, operation_of, fence_mark}
 use Rattle.printing.specs.Decimal.{decimal}
@@ -12,10 +11,10 @@ use Rattle.image.specs.Image.{AccessWordIn, FenceWordIn}
 use Rattle.drawing_edges.specs.declared.Shape.{Shape}
 
 -- the fence that a byte names; 16, which no fence has, where it names none
-abbrev pub fence_in : Byte → ℕ
-fence_in (Byte.Is (Operation.Fence n)) = n
-fence_in (Byte.Is (Operation.Access k)) = 16
-fence_in Byte.Nothing = 16
+abbrev pub fence_in : Option Operation → ℕ
+fence_in (Some (Operation.Fence n)) = n
+fence_in (Some (Operation.Access k)) = 16
+fence_in None = 16
 
 unfoldable pub fence_number : ℕ → ℕ
 fence_number b = fence_in (byte_is b)

@@ -9,7 +9,7 @@ ghost use Rattle.drawing_edges.specs.Edges.{LedLabel, Led, EdgeEnd, EdgePart, Sh
 
 use drawing_nodes::decimal;
 use operations::alphabet::{ACCESSES, STRIDE};
-use operations::{Byte, Operation, alphabet};
+use operations::{Option<Operation>, Operation, alphabet};
 use texts::{Part, Step};
 
 // How many states a machine has, how many letters, and how many fences its target has.
@@ -25,11 +25,11 @@ fn fence_number(b: u8) -> usize
     ensures { result ≡ fence_number b }
 {
     match operations::read_byte(b) {
-        Byte::Is(operation) => match operation {
+        Some(operation) => match operation {
             Operation::Fence(n) => n,
             Operation::Access(kind) => 16,
         },
-        Byte::Nothing => 16,
+        None => 16,
     }
 }
 
@@ -39,17 +39,17 @@ fn mark(text: &[u8], at: usize, marks: usize) -> Part
     ensures { Finds (MarkPart marks) text.now at (part_taken result) }
 {
     if text.len() <= at {
-        return Part::Stuck(at);
+        return Err(at);
     }
     let b = text[at];
     if b == b'-' {
-        return Part::Next(at + 1, 255);
+        return Ok((at + 1, 255));
     }
     let n = fence_number(b);
     if n < marks {
-        return Part::Next(at + 1, n);
+        return Ok((at + 1, n));
     }
-    Part::Stuck(at)
+    Err(at)
 }
 
 // From the label's beginning to the mark.
@@ -67,8 +67,8 @@ fn value_behind<'a>(text: &'a [u8], at: usize, word: &'a [u8], value: usize) -> 
     ensures { Finds (Through (λ _. value) (Word word.now)) text.now at (part_taken result) }
 {
     match texts::follow(text, at, word) {
-        Step::Stuck(place) => Part::Stuck(place),
-        Step::Next(past) => Part::Next(past, value),
+        Err(place) => Err(place),
+        Ok(past) => Ok((past, value)),
     }
 }
 
@@ -77,8 +77,8 @@ fn refused_label(text: &[u8], at: usize, letter: usize) -> Part
     ensures { Finds (RefusedLabel letter) text.now at (part_taken result) }
 {
     match label_part(text, at, letter) {
-        Step::Stuck(place) => Part::Stuck(place),
-        Step::Next(mark_at) => value_behind(text, mark_at, b"!\"];\n", 256 * 254),
+        Err(place) => Err(place),
+        Ok(mark_at) => value_behind(text, mark_at, b"!\"];\n", 256 * 254),
     }
 }
 
@@ -87,8 +87,8 @@ fn refused_end(text: &[u8], at: usize, letter: usize) -> Part
     ensures { Finds (Refused letter) text.now at (part_taken result) }
 {
     match texts::follow(text, at, b"refused ") {
-        Step::Stuck(place) => Part::Stuck(place),
-        Step::Next(label) => refused_label(text, label, letter),
+        Err(place) => Err(place),
+        Ok(label) => refused_label(text, label, letter),
     }
 }
 
@@ -98,8 +98,8 @@ fn marked(text: &[u8], at: usize, marks: usize, next: usize) -> Part
     ensures { Finds (Marked marks next) text.now at (part_taken result) }
 {
     match mark(text, at, marks) {
-        Part::Stuck(place) => Part::Stuck(place),
-        Part::Next(past, fence) => value_behind(text, past, b"\"];\n", 256 * fence + next),
+        Err(place) => Err(place),
+        Ok((past, fence)) => value_behind(text, past, b"\"];\n", 256 * fence + next),
     }
 }
 
@@ -109,8 +109,8 @@ fn led_label(text: &[u8], at: usize, marks: usize, letter: usize, next: usize) -
     ensures { Finds (LedLabel marks letter next) text.now at (part_taken result) }
 {
     match label_part(text, at, letter) {
-        Step::Stuck(place) => Part::Stuck(place),
-        Step::Next(mark_at) => marked(text, mark_at, marks, next),
+        Err(place) => Err(place),
+        Ok(mark_at) => marked(text, mark_at, marks, next),
     }
 }
 
@@ -120,8 +120,8 @@ fn led_end(text: &[u8], at: usize, states: u8, marks: usize, letter: usize) -> P
     ensures { Finds (Led states marks letter) text.now at (part_taken result) }
 {
     match texts::number(text, at, states, b' ') {
-        Part::Stuck(place) => Part::Stuck(place),
-        Part::Next(label, next) => led_label(text, label, marks, letter, next),
+        Err(place) => Err(place),
+        Ok((label, next)) => led_label(text, label, marks, letter, next),
     }
 }
 
@@ -145,8 +145,8 @@ fn edge(text: &[u8], at: usize, shape: Shape, state: usize, letter: usize) -> Pa
     ensures { Finds (EdgePart shape state letter) text.now at (part_taken result) }
 {
     match decimal::follow_decimal(text, at, state, b" -> ") {
-        Step::Stuck(place) => Part::Stuck(place),
-        Step::Next(past) => edge_end(text, past, shape, letter),
+        Err(place) => Err(place),
+        Ok(past) => edge_end(text, past, shape, letter),
     }
 }
 

@@ -1,9 +1,10 @@
 -- The contract of the public function allows one result: a text has one label in front or departs from every label at one place, a name fills one
 -- field, and where the text departs nothing else is held. Assumes nothing.
+use Rattle.std.proofs.Common.{Ok, Err}
 use Prim.Native.Nat.{ℕ}
 use mathlib.Core.Path.{◌≡◌, sym, ap, ap₂, ◌∙◌}
 use mathlib.Core.List.{List}
-use Rattle.texts.specs.declared.Step.{Step}
+use Rattle.texts.specs.Step.{Step}
 use Rattle.texts.specs.Telling.{Finds}
 use Rattle.texts.proofs.Telling.{finds_one}
 use Rattle.drawing_label.specs.declared.LabelRead.{LabelRead}
@@ -23,10 +24,10 @@ as_held r f =
 same : {r r' : LabelRead} (s s' : Step) → taken_by (label_of r) s ≡ taken_by (label_of r') s' → Bare r s → Bare r' s' → r ≡ held (label_of r) s
     → r' ≡ held (label_of r') s'
     → r ≡ r'
-same (Step.Next p) (Step.Next q) e b b' h h' = cc
-same (Step.Next p) (Step.Stuck q) e b b' h h' = cc
-same (Step.Stuck p) (Step.Next q) e b b' h h' = cc
-same (Step.Stuck p) (Step.Stuck q) e b b' h h' =
+same (Ok p) (Ok q) e b b' h h' = cc
+same (Ok p) (Err q) e b b' h h' = cc
+same (Err p) (Ok q) e b b' h h' = cc
+same (Err p) (Err q) e b b' h h' =
     let i : p ≡ q = cc in
     b ∙ ap no_label i ∙ sym b'
 

@@ -1,7 +1,7 @@
 -- The first two lines of a drawing, up to its label, as a part of its text.
-use Rattle.std.specs.Prelude.{ℕ, ◌-◌, ◌≤◌, ◌≡◌, List, ◌++◌, length, take, drop, replicate}
+use Rattle.std.specs.Prelude.{ℕ, ◌-◌, ◌≤◌, ◌≡◌, List, ◌++◌, length, take, drop, replicate, Ok, Err, Result}
 use Rattle.ground.specs.Bytes.{bytes}
-use Rattle.texts.specs.declared.Step.{Step}
+use Rattle.texts.specs.Step.{Step}
 use Rattle.texts.specs.Language.{Telling}
 use Rattle.texts.specs.NamePart.{NameFormed, name_run}
 use Rattle.texts.specs.Telling.{Then, Through, Either, Word, Named, Numbered, Taken, took, stopped}
@@ -10,7 +10,6 @@ use Rattle.printing.specs.Name.{unfilled}
 use Rattle.image.specs.declared.machine.Header.{Header}
 use Rattle.drawing.specs.Drawing.{way_word}
 use Rattle.drawing_label.specs.declared.Places.{Places}
-use Rattle.drawing_label.specs.declared.PlacesRead.{PlacesRead}
 use Rattle.drawing_label.specs.declared.LabelRead.{LabelRead}
 
 -- what a label tells
@@ -69,9 +68,9 @@ places_told t l = record {
   targets = l.targets;
 }
 
-abbrev pub places_taken : List ℕ → PlacesRead → Taken Label
-places_taken t (PlacesRead.Read l) = took l.next (places_told t l)
-places_taken t (PlacesRead.Stuck p) = stopped p
+abbrev pub places_taken : List ℕ → Result Places ℕ → Taken Label
+places_taken t (Ok l) = took l.next (places_told t l)
+places_taken t (Err p) = stopped p
 
 abbrev pub label_of : LabelRead → Label
 label_of r = record {
@@ -83,8 +82,8 @@ label_of r = record {
 }
 
 abbrev pub taken_by : Label → Step → Taken Label
-taken_by l (Step.Next p) = took p l
-taken_by l (Step.Stuck p) = stopped p
+taken_by l (Ok p) = took p l
+taken_by l (Err p) = stopped p
 
 abbrev pub label_taken : LabelRead → Taken Label
 label_taken r = taken_by (label_of r) r.step
@@ -95,11 +94,11 @@ Fielded x = field (unfilled x) ≡ x
 
 -- where the text departs nothing is held but the place
 abbrev pub no_label : ℕ → LabelRead
-no_label p = record { step = Step.Stuck p; upstream = replicate 16 0; target = replicate 16 0; way = 0; ups = 0; targets = 0 }
+no_label p = record { step = Err p; upstream = replicate 16 0; target = replicate 16 0; way = 0; ups = 0; targets = 0 }
 
 abbrev pub Bare : LabelRead → Step → Type 0
-Bare r (Step.Next p) = Unit
-Bare r (Step.Stuck p) = r ≡ no_label p
+Bare r (Ok p) = Unit
+Bare r (Err p) = r ≡ no_label p
 
 -- what is held of a label fits a machine's header
 pub record Fits (r : LabelRead) : Type 0 where

@@ -43,13 +43,13 @@ fn way_part(text: &[u8], at: usize) -> Part
 {
     if ground::byte_at(text, at) == b's' {
         return match texts::follow(text, at, b"sparing ") {
-            Step::Stuck(place) => Part::Stuck(place),
-            Step::Next(next) => Part::Next(next, 0),
+            Err(place) => Err(place),
+            Ok(next) => Ok((next, 0)),
         };
     }
     match texts::follow(text, at, b"full ") {
-        Step::Stuck(place) => Part::Stuck(place),
-        Step::Next(next) => Part::Next(next, 1),
+        Err(place) => Err(place),
+        Ok(next) => Ok((next, 1)),
     }
 }
 
@@ -66,10 +66,10 @@ fn from_targets(
         text.now at (places_taken text.now result) }
 {
     match texts::number(text, at, 17, b'"') {
-        Part::Stuck(place) => PlacesRead::Stuck(place),
-        Part::Next(end, targets) => match texts::follow(text, end, b";\n") {
-            Step::Stuck(place) => PlacesRead::Stuck(place),
-            Step::Next(next) => PlacesRead::Read(Places {
+        Err(place) => Err(place),
+        Ok((end, targets)) => match texts::follow(text, end, b";\n") {
+            Err(place) => Err(place),
+            Ok(next) => Ok(Places {
                 upstream,
                 target,
                 way,
@@ -87,8 +87,8 @@ fn from_ups(text: &[u8], upstream: usize, target: usize, way: usize, at: usize) 
         text.now at (places_taken text.now result) }
 {
     match texts::number(text, at, 17, b' ') {
-        Part::Stuck(place) => PlacesRead::Stuck(place),
-        Part::Next(next, ups) => from_targets(text, upstream, target, way, ups, next),
+        Err(place) => Err(place),
+        Ok((next, ups)) => from_targets(text, upstream, target, way, ups, next),
     }
 }
 
@@ -98,8 +98,8 @@ fn from_way(text: &[u8], upstream: usize, target: usize, at: usize) -> PlacesRea
         text.now at (places_taken text.now result) }
 {
     match way_part(text, at) {
-        Part::Stuck(place) => PlacesRead::Stuck(place),
-        Part::Next(next, way) => from_ups(text, upstream, target, way, next),
+        Err(place) => Err(place),
+        Ok((next, way)) => from_ups(text, upstream, target, way, next),
     }
 }
 
@@ -108,8 +108,8 @@ fn from_target(text: &[u8], upstream: usize, at: usize) -> PlacesRead
     ensures { Finds (FromTarget (name_from text.now upstream)) text.now at (places_taken text.now result) }
 {
     match texts::name(text, at, b' ') {
-        Step::Stuck(place) => PlacesRead::Stuck(place),
-        Step::Next(next) => from_way(text, upstream, at, next),
+        Err(place) => Err(place),
+        Ok(next) => from_way(text, upstream, at, next),
     }
 }
 
@@ -118,8 +118,8 @@ fn from_upstream(text: &[u8], at: usize) -> PlacesRead
     ensures { Finds FromUpstream text.now at (places_taken text.now result) }
 {
     match texts::name(text, at, b' ') {
-        Step::Stuck(place) => PlacesRead::Stuck(place),
-        Step::Next(next) => from_target(text, at, next),
+        Err(place) => Err(place),
+        Ok(next) => from_target(text, at, next),
     }
 }
 
@@ -127,8 +127,8 @@ fn label_places(text: &[u8]) -> PlacesRead
     ensures { Finds LabelPart text.now 0 (places_taken text.now result) }
 {
     match texts::follow(text, 0, b"digraph shim {\nlabel=\"") {
-        Step::Stuck(place) => PlacesRead::Stuck(place),
-        Step::Next(next) => from_upstream(text, next),
+        Err(place) => Err(place),
+        Ok(next) => from_upstream(text, next),
     }
 }
 
@@ -158,19 +158,19 @@ pub fn label(text: &[u8]) -> LabelRead
     ensures { Finds LabelPart text.now 0 (label_taken result) × Fits result }
 {
     match label_places(text) {
-        PlacesRead::Stuck(place) => LabelRead {
-            step: Step::Stuck(place),
+        Err(place) => LabelRead {
+            step: Err(place),
             upstream: [0; 16],
             target: [0; 16],
             way: 0,
             ups: 0,
             targets: 0,
         },
-        PlacesRead::Read(l) => {
+        Ok(l) => {
             let upstream = name_field(text, l.upstream);
             let target = name_field(text, l.target);
             LabelRead {
-                step: Step::Next(l.next),
+                step: Ok(l.next),
                 upstream,
                 target,
                 way: l.way,

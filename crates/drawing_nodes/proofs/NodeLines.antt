@@ -1,5 +1,6 @@
 -- The lines of the nodes: a node's line begins with a digit that is no zero, or is node 0's, so the `0` behind the last one tells that there are
 -- no more. Assumes nothing.
+use Rattle.std.proofs.Common.{Err}
 use Prim.Native.Nat.{ℕ, zero, suc, ◌+◌, ◌≤◌, ◌<◌}
 use mathlib.Core.Path.{◌≡◌, refl, sym, ap, ap₂, subst, ◌∙◌}
 use mathlib.Core.List.{List, [], ◌∷◌, ◌++◌, append-nil, append_assoc}
@@ -12,7 +13,7 @@ use lib.Dec.{T}
 use lib.ListN.{length, take, drop, get_or, take-append-drop, get_or-eq_default}
 use lib.Seq.{drop-cons, get_or-drop}
 use Rattle.ground.specs.Bytes.{bytes}
-use Rattle.texts.specs.declared.Step.{Step}
+use Rattle.texts.specs.Step.{Step}
 use Rattle.texts.specs.Language.{Telling, Any, Some, Unique}
 use Rattle.texts.specs.Pattern.{is_word, follow_at}
 use Rattle.texts.specs.Telling.{Then, Word, Taken, took, stopped, Finds}
@@ -91,7 +92,7 @@ module _ (t : List ℕ) (here k : ℕ) where
   pub end_stuck : (get_or t here 0 ≡ 48 → ⊥) → Finds (NodesEnd k) t here (stopped here)
   end_stuck other = through_stopped (λ _. k) (Word (bytes "0")) t here (word_stuck (bytes "0") t here tt refl (by (dec_lt here (length t))))
     where
-      by : Dec (here < length t) → follow_at (bytes "0") t here ≡ Step.Stuck here
+      by : Dec (here < length t) → follow_at (bytes "0") t here ≡ Err here
       by (yes l) = follow_not (bytes "0") t 0 here (omega arith) l (ne_eqb (get_or t here 0) 48 other)
       by (no l) = follow_over (bytes "0") t 0 here (omega arith) (omega arith)
 

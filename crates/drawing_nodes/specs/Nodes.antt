@@ -1,7 +1,7 @@
 -- The lines of a drawing's nodes as a part of its text.
-use Rattle.std.specs.Prelude.{ℕ, zero, suc, ◌+◌}
+use Rattle.std.specs.Prelude.{ℕ, zero, suc, ◌+◌, Ok, Err}
 use Rattle.ground.specs.Bytes.{bytes}
-use Rattle.texts.specs.declared.Part.{Part}
+use Rattle.texts.specs.Step.{Part}
 use Rattle.texts.specs.Language.{Telling}
 use Rattle.texts.specs.Telling.{Then, Through, Either, Word, Taken, took, stopped}
 use Rattle.drawing.specs.Drawing.{node_line}
@@ -21,5 +21,5 @@ NodesPart = Then (Word (node_line 0)) (λ _. NodesFrom 254 1)
 
 -- what reading the nodes has taken, by the place of the `0` and how many they are
 abbrev pub nodes_taken : Part → Taken ℕ
-nodes_taken (Part.Next p n) = took (p + 1) n
-nodes_taken (Part.Stuck p) = stopped p
+nodes_taken (Ok (p, n)) = took (p + 1) n
+nodes_taken (Err p) = stopped p

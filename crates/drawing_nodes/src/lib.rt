@@ -14,9 +14,9 @@ fn nodes_end(text: &[u8], at: usize, number: usize) -> Part
     ensures { Finds (NodesEnd number) text.now at (nodes_taken result) }
 {
     if ground::byte_at(text, at) == b'0' {
-        return Part::Next(at, number);
+        return Ok((at, number));
     }
-    Part::Stuck(at)
+    Err(at)
 }
 
 // The lines from that of node 1 on, at most 254 of them.
@@ -27,11 +27,11 @@ fn more_nodes(text: &[u8], at: usize) -> Part
     let mut number = 1;
     while number < 255 {
         if ground::byte_at(text, here) == b'0' {
-            return Part::Next(here, number);
+            return Ok((here, number));
         }
         match follow_decimal(text, here, number, b";\n") {
-            Step::Stuck(place) => return Part::Stuck(place),
-            Step::Next(next) => here = next,
+            Err(place) => return Err(place),
+            Ok(next) => here = next,
         }
         number += 1;
     }
@@ -43,7 +43,7 @@ pub fn nodes(text: &[u8], at: usize) -> Part
     ensures { Finds NodesPart text.now at (nodes_taken result) }
 {
     match follow_decimal(text, at, 0, b";\n") {
-        Step::Stuck(place) => Part::Stuck(place),
-        Step::Next(next) => more_nodes(text, next),
+        Err(place) => Err(place),
+        Ok(next) => more_nodes(text, next),
     }
 }

@@ -1,5 +1,6 @@
 -- Edges read into rows, one behind another: what is found so far is what stands in the rows so far, since a word that is put touches no other.
 -- Assumes nothing.
+use Rattle.std.proofs.Common.{Ok, Err}
 use Prim.Native.Nat.{ℕ, zero, suc, ◌+◌, ◌*◌, ◌≤◌, ◌<◌}
 use mathlib.Core.Path.{◌≡◌, refl, sym, ap₂, subst, ◌∙◌}
 use mathlib.Core.List.{List, [], ◌∷◌, ◌++◌}
@@ -9,8 +10,8 @@ use lib.ListN.{length, set, length-set}
 use lib.Seq.{get_or-set_same, get_or-set_other}
 use Rattle.ground.specs.Bytes.{at}
 use Rattle.operations.specs.Alphabet.{stride}
-use Rattle.texts.specs.declared.Step.{Step}
-use Rattle.texts.specs.declared.Part.{Part}
+use Rattle.texts.specs.Step.{Step}
+use Rattle.texts.specs.Step.{Part}
 use Rattle.texts.specs.Language.{Any, Some, Unique}
 use Rattle.texts.specs.Telling.{Items, part_taken, took, Finds}
 use Rattle.texts.proofs.Telling.{unique_items, some_items, items_none, items_more, items_stop}
@@ -68,7 +69,7 @@ row_none sh state t start rows = record {
 
 module _ (sh : Shape) (shaped : Shaped sh) (state : ℕ) (t : List ℕ) (start : ℕ) (rows₀ : List ℕ) (letter here : ℕ) (rows : List ℕ)
     (so_far : RowSoFar sh state t start rows₀ letter here rows) where
-  pub row_done : sh.letters ≤ letter → ReadsRow sh state t start rows₀ (Step.Next here) rows
+  pub row_done : sh.letters ≤ letter → ReadsRow sh state t start rows₀ (Ok here) rows
   row_done l = record {
     size = so_far.size;
     found = subst (λ (n : ℕ). Finds (Items (EdgePart sh state) n) t start (took here (row_told n rows state))) all so_far.found;
@@ -82,7 +83,7 @@ module _ (sh : Shape) (shaped : Shaped sh) (state : ℕ) (t : List ℕ) (start :
     edge_is : {s : Part} → r ≡ s → Finds (EdgePart sh state letter) t here (part_taken s)
     edge_is e = subst (λ (s : Part). Finds (EdgePart sh state letter) t here (part_taken s)) e (edge_own sh state letter shaped edge)
 
-    pub row_stop : {p : ℕ} → r ≡ Part.Stuck p → ReadsRow sh state t start rows₀ (Step.Stuck p) rows
+    pub row_stop : {p : ℕ} → r ≡ Err p → ReadsRow sh state t start rows₀ (Err p) rows
     row_stop e = record {
       size = so_far.size;
       found =
@@ -91,10 +92,10 @@ module _ (sh : Shape) (shaped : Shaped sh) (state : ℕ) (t : List ℕ) (start :
       rest = λ i out. so_far.rest i (λ a b. out a (omega arith));
     }
 
-    pub row_small : {p w : ℕ} → r ≡ Part.Next p w → w < 65536
+    pub row_small : {p w : ℕ} → r ≡ Ok (p, w) → w < 65536
     row_small e = edge_small sh shaped state letter (edge_is e)
 
-    pub row_more : {p w : ℕ} → r ≡ Part.Next p w → state * stride + letter < length rows
+    pub row_more : {p w : ℕ} → r ≡ Ok (p, w) → state * stride + letter < length rows
         → RowSoFar sh state t start rows₀ (letter + 1) p (set rows (state * stride + letter) w)
     row_more {p} {w} e inside = record {
       few = omega arith;
@@ -136,7 +137,7 @@ rows_none sh t start rows = record {
 
 module _ (sh : Shape) (shaped : Shaped sh) (t : List ℕ) (start : ℕ) (rows₀ : List ℕ) (state here : ℕ) (rows : List ℕ)
     (so_far : RowsSoFar sh t start rows₀ state here rows) where
-  pub rows_done : sh.states ≤ state → ReadsRows sh t start rows₀ (Step.Next here) rows
+  pub rows_done : sh.states ≤ state → ReadsRows sh t start rows₀ (Ok here) rows
   rows_done l = record {
     size = so_far.size;
     found = subst (λ (n : ℕ). Finds (Items (RowPart sh) n) t start (took here (rows_told sh.letters rows n))) all so_far.found;
@@ -156,7 +157,7 @@ module _ (sh : Shape) (shaped : Shaped sh) (t : List ℕ) (start : ℕ) (rows₀
         row.rest i (λ low high. out (record { state = omega (arith, shaped.letters); letter = omega (arith, shaped.letters) }))
         ∙ so_far.rest i (λ w. out (record { state = omega (arith, w.state); letter = w.letter }))
 
-    pub rows_stop : {p : ℕ} → r ≡ Step.Stuck p → ReadsRows sh t start rows₀ (Step.Stuck p) rows'
+    pub rows_stop : {p : ℕ} → r ≡ Err p → ReadsRows sh t start rows₀ (Err p) rows'
     rows_stop e = record {
       size = row.size ∙ so_far.size;
       found =
@@ -164,7 +165,7 @@ module _ (sh : Shape) (shaped : Shaped sh) (t : List ℕ) (start : ℕ) (rows₀
       rest = λ i out. others sh.states i l out;
     }
 
-    pub rows_more : {p : ℕ} → r ≡ Step.Next p → RowsSoFar sh t start rows₀ (state + 1) p rows'
+    pub rows_more : {p : ℕ} → r ≡ Ok p → RowsSoFar sh t start rows₀ (state + 1) p rows'
     rows_more {p} e = record {
       few = omega arith;
       size = row.size ∙ so_far.size;

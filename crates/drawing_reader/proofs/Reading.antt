@@ -1,5 +1,6 @@
 -- How the reader goes on from one part of a drawing to the next, and what it has read in the end: each by the law for one part and then another,
 -- and by the texts of the whole part, which are the drawings. Assumes nothing.
+use Rattle.std.proofs.Common.{Ok, Err}
 use Prim.Native.Nat.{ℕ, ◌+◌, ◌*◌, ◌%◌, ◌≤◌, ◌<◌}
 use mathlib.Core.Path.{◌≡◌, refl, sym, ap, ap₂, subst, ◌∙◌}
 use mathlib.Core.List.{List, [], ◌++◌}
@@ -10,8 +11,8 @@ use lib.Seq.{get_or-drop, get_or-take, get_or_at, length-take-le}
 use Rattle.ground.specs.Bytes.{at, bytes}
 use Rattle.operations.specs.Alphabet.{access_letters, stride}
 use Rattle.printing.specs.Turns.{in_turn}
-use Rattle.texts.specs.declared.Step.{Step}
-use Rattle.texts.specs.declared.Part.{Part}
+use Rattle.texts.specs.Step.{Step}
+use Rattle.texts.specs.Step.{Part}
 use Rattle.texts.specs.Language.{Longest, Any}
 use Rattle.texts.specs.Pattern.{follow_at}
 use Rattle.texts.specs.Telling.{After, Through, Word, Taken, took, stopped, Finds, finds, departs, word_taken}
@@ -63,14 +64,14 @@ module _ (h : Header) (shaped : Shaped (shape_for (label_for h) h.states)) {shap
   taken : {x : Step} → r ≡ x → Finds (RowsPart sh) t start (rows_taken sh.letters rows' sh.states x)
   taken e = subst (λ (x : Step). Finds (RowsPart sh) t start (rows_taken sh.letters rows' sh.states x)) e read.found
 
-  pub edges_stop : {p : ℕ} → r ≡ Step.Stuck p → Edges start h.states (Step.Stuck p)
+  pub edges_stop : {p : ℕ} → r ≡ Err p → Edges start h.states (Err p)
   edges_stop e = record {
     size = read.size;
     found = then_stops (RowsPart sh) (DrawingEnd (label_for h) h.states) t start (some_end (label_for h) h.states shaped) (taken e);
     rest = read.rest;
   }
 
-  pub edges_end : {p : ℕ} → r ≡ Step.Next p → {x : Step} → x ≡ follow_at (bytes "}\n") t p → Edges start h.states x
+  pub edges_end : {p : ℕ} → r ≡ Ok p → {x : Step} → x ≡ follow_at (bytes "}\n") t p → Edges start h.states x
   edges_end {p} e {x} is = record {
     size = read.size;
     found =
@@ -83,8 +84,8 @@ module _ (h : Header) (shaped : Shaped (shape_for (label_for h) h.states)) {shap
       f _ = drawn_for h rows'
 
       last : (x : Step) → Finds (Word (bytes "}\n")) t p (word_taken x) → Finds (Through f (Word (bytes "}\n"))) t p (drawn_taken h rows' x)
-      last (Step.Next q) found = through_took f (Word (bytes "}\n")) t p found
-      last (Step.Stuck q) found = through_stopped f (Word (bytes "}\n")) t p found
+      last (Ok q) found = through_took f (Word (bytes "}\n")) t p found
+      last (Err q) found = through_stopped f (Word (bytes "}\n")) t p found
 
 -- the nodes: at the place that is told stands a `0`
 module _ (t : List ℕ) (start m k : ℕ) (l : m ≤ length (drop start t)) (x : NodesPart k (take m (drop start t))) where
@@ -125,14 +126,14 @@ module _ (l : Label) (formed : LabelFormed l) (t : List ℕ) (start : ℕ) {r : 
   told : {x : Part} → r ≡ x → Finds NodesPart t start (nodes_taken x)
   told e = subst (λ (x : Part). Finds NodesPart t start (nodes_taken x)) e read
 
-  pub nodes_stop : {p : ℕ} → r ≡ Part.Stuck p → (rows : List ℕ) (h : Header) → ReadsDrawn (FromNodes l) t start rows h (Step.Stuck p) rows
+  pub nodes_stop : {p : ℕ} → r ≡ Err p → (rows : List ℕ) (h : Header) → ReadsDrawn (FromNodes l) t start rows h (Err p) rows
   nodes_stop e rows h = record {
     size = refl;
     found = stops_told NodesPart (λ n. After 48 (FromEdges l n)) t start (some_behind_nodes l formed) (told e);
     rest = λ i out. refl;
   }
 
-  module _ {q n : ℕ} (e : r ≡ Part.Next q n) where
+  module _ {q n : ℕ} (e : r ≡ Ok (q, n)) where
     there : NodesThere t (took (q + 1) n)
     there = nodes_there t start (told e)
 
@@ -162,17 +163,17 @@ module _ (t : List ℕ) (l : LabelRead) (read : Finds LabelPart t 0 (label_taken
   given : {x : Step} → l.step ≡ x → Finds LabelPart t 0 (taken_by (label_of l) x)
   given e = subst (λ (x : Step). Finds LabelPart t 0 (taken_by (label_of l) x)) e read
 
-  pub label_stop : {p : ℕ} → l.step ≡ Step.Stuck p → (rows : List ℕ) (h : Header) → ReadsDrawn WholePart t 0 rows h (Step.Stuck p) rows
+  pub label_stop : {p : ℕ} → l.step ≡ Err p → (rows : List ℕ) (h : Header) → ReadsDrawn WholePart t 0 rows h (Err p) rows
   label_stop e rows h = record {
     size = refl;
     found = stops_told LabelPart FromNodes t 0 some_behind_label (given e);
     rest = λ i out. refl;
   }
 
-  pub label_formed : {p : ℕ} → l.step ≡ Step.Next p → LabelFormed (label_of l)
+  pub label_formed : {p : ℕ} → l.step ≡ Ok p → LabelFormed (label_of l)
   label_formed e = told_formed (given e)
 
-  pub label_go : {p : ℕ} → l.step ≡ Step.Next p → (rows rows' : List ℕ) (h : Header) {x : Step}
+  pub label_go : {p : ℕ} → l.step ≡ Ok p → (rows rows' : List ℕ) (h : Header) {x : Step}
       → ReadsDrawn (FromNodes (label_of l)) t p rows h x rows' → ReadsDrawn WholePart t 0 rows h x rows'
   label_go e rows rows' h nodes = record {
     size = nodes.size;
@@ -196,13 +197,13 @@ module _ (t : List ℕ) (h : Header) (rows : List ℕ) {r : Step} (read : ReadsD
   no_drawing : {k : ℕ} → Longest (Any WholePart) t k × (Any WholePart t → ⊥) → (Drawing t → ⊥) × Longest Drawing t k
   no_drawing {k} (longest, none) = ((λ d. none (drawing_any t d)), longest_iff (Any WholePart) Drawing any_drawing drawing_any t k longest)
 
-  pub read_stuck : {k : ℕ} → r ≡ Step.Stuck k → (Drawing t → ⊥) × Longest Drawing t k
+  pub read_stuck : {k : ℕ} → r ≡ Err k → (Drawing t → ⊥) × Longest Drawing t k
   read_stuck e = no_drawing (whole_stopped WholePart t (whole e))
 
-  pub read_passed : {k : ℕ} → r ≡ Step.Next k → (k ≡ length t → ⊥) → (Drawing t → ⊥) × Longest Drawing t k
+  pub read_passed : {k : ℕ} → r ≡ Ok k → (k ≡ length t → ⊥) → (Drawing t → ⊥) × Longest Drawing t k
   read_passed e more = no_drawing (whole_passed WholePart t unique_whole (whole e) more)
 
-  module _ {k n : ℕ} (e : r ≡ Step.Next k) (all : k ≡ length t) (up : Fielded h.upstream) (target : Fielded h.target)
+  module _ {k n : ℕ} (e : r ≡ Ok k) (all : k ≡ length t) (up : Fielded h.upstream) (target : Fielded h.target)
       (states : n ≡ h.states) where
     absent : (s f : ℕ) → s < h.states → h.ups ≤ f → f < 16 → word rows s (access_letters + f) ≡ 0
     absent s f l m few =

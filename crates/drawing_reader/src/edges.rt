@@ -18,15 +18,15 @@ fn edge_row(text: &[u8], start: usize, rows: &mut [u16], shape: Shape, state: us
     let mut letter = 0;
     while letter < letters {
         match drawing_edges::edge_line(text, here, shape, state, letter) {
-            Part::Stuck(place) => return Step::Stuck(place),
-            Part::Next(past, word) => {
+            Err(place) => return Err(place),
+            Ok((past, word)) => {
                 rows[state * STRIDE + letter] = word as u16;
                 here = past;
                 letter += 1;
             }
         }
     }
-    Step::Next(here)
+    Ok(here)
 }
 
 // The edges of all states: their words to the rows.
@@ -39,12 +39,12 @@ pub(crate) fn edge_rows(text: &[u8], start: usize, rows: &mut [u16], shape: Shap
     let mut state = 0;
     while state < states {
         match edge_row(text, here, rows, shape, state) {
-            Step::Stuck(place) => return Step::Stuck(place),
-            Step::Next(past) => {
+            Err(place) => return Err(place),
+            Ok(past) => {
                 here = past;
                 state += 1;
             }
         }
     }
-    Step::Next(here)
+    Ok(here)
 }

@@ -41,8 +41,8 @@ fn read_edges(text: &[u8], at: usize, header: Header, rows: &mut [u16]) -> Step
         targets: ground::wide(header.targets),
     };
     match edges::edge_rows(text, at, rows, shape) {
-        Step::Stuck(place) => Step::Stuck(place),
-        Step::Next(end) => texts::follow(text, end, b"}\n"),
+        Err(place) => Err(place),
+        Ok(end) => texts::follow(text, end, b"}\n"),
     }
 }
 
@@ -70,11 +70,11 @@ fn read_nodes(text: &[u8], at: usize, label: LabelRead, rows: &mut [u16]) -> Dra
         × Fielded result.header.upstream × Fielded result.header.target }
 {
     match drawing_nodes::nodes(text, at) {
-        Part::Stuck(place) => DrawingRead {
-            step: Step::Stuck(place),
+        Err(place) => DrawingRead {
+            step: Err(place),
             header: header_for(label, 0),
         },
-        Part::Next(first, states) => {
+        Ok((first, states)) => {
             let header = header_for(label, states);
             let step = read_edges(text, first, header, rows);
             DrawingRead { step, header }
@@ -91,11 +91,11 @@ fn read(text: &[u8], rows: &mut [u16]) -> DrawingRead
     let label = drawing_label::label(text);
     let step = label.step;
     match step {
-        Step::Stuck(place) => DrawingRead {
-            step: Step::Stuck(place),
+        Err(place) => DrawingRead {
+            step: Err(place),
             header: header_for(label, 0),
         },
-        Step::Next(at) => read_nodes(text, at, label, rows),
+        Ok(at) => read_nodes(text, at, label, rows),
     }
 }
 
@@ -104,17 +104,17 @@ pub fn undraw(text: &[u8], out: &mut [u8]) -> Answer
     ensures { Answers (Undrawn text.now) out.old result out.new }
 {
     if LIMIT < text.len() {
-        return Answer::Refused(Refusal::OverLimit);
+        return Err(Refusal::OverLimit);
     }
     let mut rows = [0u16; WORDS];
     let drawing = read(text, &mut rows);
     let step = drawing.step;
     let header = drawing.header;
     match step {
-        Step::Stuck(place) => Answer::Refused(Refusal::NotOfTheForm(place)),
-        Step::Next(end) => {
+        Err(place) => Err(Refusal::NotOfTheForm(place)),
+        Ok(end) => {
             if end != text.len() {
-                return Answer::Refused(Refusal::NotOfTheForm(end));
+                return Err(Refusal::NotOfTheForm(end));
             }
             let n = ground::wide(header.states) * STRIDE;
             writer::write(header, &rows[..n], out)

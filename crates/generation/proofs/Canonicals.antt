@@ -1,5 +1,6 @@
 -- What is made of two models that were read is a machine of the layout: their names fill their fields, and every word of the rows is an access's or
 -- an upstream fence's. Assumes nothing.
+use Rattle.std.proofs.Common.{Ok}
 use Prim.Native.Nat.{ℕ, ◌+◌, ◌-◌, ◌/◌, ◌%◌, ◌≤◌, ◌<◌}
 use mathlib.Core.Path.{◌≡◌, refl, sym, subst, ◌∙◌}
 use mathlib.Core.Bool.{Bool, true, false, cond}
@@ -11,14 +12,14 @@ use lib.Dec.{T, eqb}
 use lib.ListN.{length, get_or, replicate}
 use Rattle.ground.proofs.Truths.{differ, is_true}
 use Rattle.ground.specs.Bytes.{name_byte}
-use Rattle.answers.specs.declared.Verdict.{Verdict}
+use Rattle.answers.specs.Answer.{Verdict}
 use Rattle.rule.specs.declared.way.Way.{Way}
 use Rattle.rule.specs.declared.situation.Situation.{Situation}
 use Rattle.rule.specs.Rule.{way_number}
 use Rattle.rule.specs.Pairs as rule
 use Rattle.rule.specs.Situation.{asks}
 use Rattle.models.specs.declared.model.Model.{Model}
-use Rattle.models.specs.declared.model.Reading.{Reading}
+use Rattle.models.specs.Told.{Reading}
 use Rattle.models.specs.Reading.{reading}
 use Rattle.models.specs.Told.{accepting, Told, over, departs, repeated, accepted}
 use Rattle.models.proofs.Words.{told}
@@ -42,7 +43,7 @@ name_field n f =
     filled_field n f.some f.few λ k l. is_true (name_byte (get_or n k 0)) (each_at (λ (b : ℕ). T (name_byte b)) n 0 f.bytes k l)
 
 -- the name of a model that was read fills a field
-named_told : {t : List ℕ} {r : Reading} → Told t r → r.verdict ≡ Verdict.Accepted → NameField r.model.name.bytes
+named_told : {t : List ℕ} {r : Reading} → Told t r → r.verdict ≡ (Ok tt) → NameField r.model.name.bytes
 named_told (over l) e = differ (cc)
 named_told (departs l n k) e = differ (cc)
 named_told (repeated d k l f t s) e = differ (cc)

@@ -1,4 +1,5 @@
 -- The theorems about an image that was generated, for any two texts and any way, as a reader wants to find them. Assumes nothing.
+use Rattle.std.proofs.Common.{Ok, Err, Result}
 use Prim.Native.Nat.{ℕ, ◌*◌, ◌≤◌}
 use mathlib.Core.Path.{◌≡◌, sym, ap, subst, ◌∙◌}
 use mathlib.Core.Logic.{◌↔◌}
@@ -8,7 +9,7 @@ use lib.ListN.{length, take, length-replicate}
 use Rattle.ground.proofs.Truths.{differ}
 use Rattle.answers.specs.declared.Refusal.{Refusal}
 use Rattle.answers.specs.Given.{Given, gives, refuses}
-use Rattle.answers.specs.declared.Verdict.{Verdict}
+use Rattle.answers.specs.Answer.{Verdict}
 use Rattle.operations.specs.Alphabet.{stride}
 use Rattle.rule.specs.declared.way.Way.{Way}
 use Rattle.rule.specs.declared.way.Shim.{Shim}
@@ -21,7 +22,6 @@ use Rattle.shims.specs.Opening.{way_of, opened, Opens}
 use Rattle.shims.proofs.Calls.{given_opened}
 use Rattle.shims.proofs.Fences.{few_read, few_fences}
 use Rattle.shims.proofs.Theorems.{opens}
-use Rattle.machine.specs.declared.machine.Outcome.{Outcome}
 use Rattle.machine.specs.Shim.{shim, shim_of}
 use Rattle.machine.specs.Generated.{Making, Unmade, roomless, named}
 use Rattle.machine.specs.Counted.{ManySituations, ManyStates}
@@ -47,11 +47,11 @@ imaged number upstream target image fences state h =
     call : Opening
     call = opened number upstream target
 
-    by_outcome : Opens (way_of number) upstream target call.models → (o : Outcome) (rows : List ℕ) → MachineMade call.models blank o rows
+    by_outcome : Opens (way_of number) upstream target call.models → (o : Result Machine Refusal) (rows : List ℕ) → MachineMade call.models blank o rows
         → gives image fences state ≡ given_by o call.models rows → Imaged number upstream target image
-    by_outcome p (Outcome.Made x) rows g e =
+    by_outcome p (Ok x) rows g e =
         record { models = call.models; opens = p; machine = x; rows = rows; made = g; image_is = cc }
-    by_outcome p (Outcome.Refused why) rows g e = differ (cc)
+    by_outcome p (Err why) rows g e = differ (cc)
 
 module _ {number : ℕ} {upstream target image : List ℕ} (call : Imaged number upstream target image) where
   abbrev way : Way
@@ -85,7 +85,7 @@ module _ {number : ℕ} {upstream target image : List ℕ} (call : Imaged number
       (name_read target call.opens.target_read)
 
   -- A generated machine's image is accepted.
-  pub image_accepted : verdict_of image ≡ Verdict.Accepted
+  pub image_accepted : verdict_of image ≡ (Ok tt)
   image_accepted = ap verdict_of call.image_is ∙ read_written_accepted header call.rows laid_out
 
   -- It reads as the machine that was made.
@@ -117,20 +117,20 @@ module _ (models : Models) (given : Given) (is : MachineGiven models given) wher
   abbrev the_target : Model
   the_target = target_of the_shim (named targets)
 
-  abbrev made_of : Outcome → Given
+  abbrev made_of : Result Machine Refusal → Given
   made_of o = given_by o models is.rows
 
   -- a refusal that is given is the machine's
-  refused_as : (o : Outcome) {why : Refusal} → made_of o ≡ refuses why → o ≡ Outcome.Refused why
-  refused_as (Outcome.Made x) e = differ (cc)
-  refused_as (Outcome.Refused w) {why} e = let same : w ≡ why = cc in ap Outcome.Refused same
+  refused_as : (o : Result Machine Refusal) {why : Refusal} → made_of o ≡ refuses why → o ≡ Err why
+  refused_as (Ok x) e = differ (cc)
+  refused_as (Err w) {why} e = let same : w ≡ why = cc in ap Err same
 
   -- Refusal 8 is given exactly when more than 4,096 situations can be reached.
   pub gives_8_exactly_when : (given ≡ refuses Refusal.TooManySituations) ↔ ManySituations models.way the_upstream the_target
   gives_8_exactly_when =
       (λ e. exactly.0 (refused_as is.outcome (sym is.gives_it ∙ e)), λ m. is.gives_it ∙ ap made_of (exactly.1 m))
     where
-      exactly : (is.outcome ≡ Outcome.Refused Refusal.TooManySituations) ↔ ManySituations models.way the_upstream the_target
+      exactly : (is.outcome ≡ Err Refusal.TooManySituations) ↔ ManySituations models.way the_upstream the_target
       exactly = refused_8_exactly_when the_shim ups targets blank is.outcome is.rows is.made.generated
 
   -- Refusal 9 is given exactly when the situations are not too many and the states are more than 255.
@@ -139,16 +139,16 @@ module _ (models : Models) (given : Given) (is : MachineGiven models given) wher
   gives_9_exactly_when =
       (λ e. exactly.0 (refused_as is.outcome (sym is.gives_it ∙ e)), λ m. is.gives_it ∙ ap made_of (exactly.1 m))
     where
-      exactly : (is.outcome ≡ Outcome.Refused Refusal.TooManyStates)
+      exactly : (is.outcome ≡ Err Refusal.TooManyStates)
           ↔ ((ManySituations models.way the_upstream the_target → ⊥) × ManyStates models.way the_upstream the_target)
       exactly = refused_9_exactly_when the_shim ups targets blank is.outcome is.rows is.made.generated
 
   -- The rows always have room, so 7 is never given for want of it, but only where the image exceeds the caller's buffer.
   pub never_7 : given ≡ refuses Refusal.BufferTooSmall → ⊥
-  never_7 e = look (subst (λ (o : Outcome). MachineMade models blank o is.rows) (refused_as is.outcome (sym is.gives_it ∙ e)) is.made)
+  never_7 e = look (subst (λ (o : Result Machine Refusal). MachineMade models blank o is.rows) (refused_as is.outcome (sym is.gives_it ∙ e)) is.made)
     where
       short : Unmade (shim_of the_shim (named ups) (named targets)) blank Refusal.BufferTooSmall → ⊥
       short (roomless f l d h) = omega (arith, h, l, length-replicate {A = ℕ} 5100 0)
 
-      look : MachineMade models blank (Outcome.Refused Refusal.BufferTooSmall) is.rows → ⊥
+      look : MachineMade models blank (Err Refusal.BufferTooSmall) is.rows → ⊥
       look g = short g.generated.0

@@ -2,7 +2,7 @@
 use Prim.Native.Nat.{ℕ}
 use mathlib.Core.Path.{◌≡◌}
 use mathlib.Core.List.{List}
-use Rattle.answers.specs.declared.Answer.{Answer}
+use Rattle.answers.specs.Answer.{Answer}
 use Rattle.answers.specs.Given.{Answers}
 use Rattle.answers.proofs.Given.{answers_one}
 use Rattle.generation.specs.Generating.{ImageGiven}

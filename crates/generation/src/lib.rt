@@ -39,8 +39,8 @@ fn write_made(made: Outcome, models: Models, rows: &[u16], out: &mut [u8]) -> An
     ensures { Delivers (given_by made models rows.now) out.old result out.new }
 {
     match made {
-        Outcome::Made(machine) => image::writer::write(header_for(machine, models), rows, out),
-        Outcome::Refused(why) => Answer::Refused(why),
+        Ok(machine) => image::writer::write(header_for(machine, models), rows, out),
+        Err(why) => Err(why),
     }
 }
 
@@ -61,7 +61,7 @@ pub fn generate<'a>(way: u64, upstream: &'a [u8], target: &'a [u8], out: &mut [u
     let verdict = read.verdict;
     let models = read.models;
     match verdict {
-        Verdict::Refused(why) => Answer::Refused(why),
-        Verdict::Accepted => generate_models(models, out),
+        Err(why) => Err(why),
+        Ok(()) => generate_models(models, out),
     }
 }

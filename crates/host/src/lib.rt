@@ -146,8 +146,8 @@ fn relation_in(compared: Compared) -> u64
     ensures { result ≡ relation_of compared }
 {
     match compared {
-        Compared::Is(is) => is.number(),
-        Compared::Refused(_) => 0,
+        Ok(is) => is.number(),
+        Err(_) => 0,
     }
 }
 
@@ -155,11 +155,11 @@ fn as_answer(compared: Compared) -> Answer
     ensures { result ≡ compared_as compared }
 {
     match compared {
-        Compared::Is(_) => Answer::Done {
+        Ok(_) => Answer::Done {
             written: 0,
             fences: 0,
             state: 0,
         },
-        Compared::Refused(why) => Answer::Refused(why),
+        Err(why) => Err(why),
     }
 }

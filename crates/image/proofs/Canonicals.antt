@@ -1,4 +1,5 @@
 -- Of a machine of the layout: its image is accepted, and reads as the same machine. Assumes nothing.
+use Rattle.std.proofs.Common.{Ok}
 use Prim.Native.Nat.{ℕ, ◌+◌, ◌-◌, ◌*◌, ◌/◌, ◌%◌, ◌<◌, ◌≤◌}
 use mathlib.Core.Path.{◌≡◌, refl, sym, ap, subst, ◌∙◌}
 use mathlib.Core.Bool.{Bool, true, false, not, cond}
@@ -10,7 +11,7 @@ use borrow.Author.Tests.{lt-ltb, le-ltb, lt-leb, eq-eqb, ne_eqb}
 use lib.Dec.{leb, ltb, eqb}
 use lib.ListN.{length, take}
 use Rattle.ground.specs.Bytes.{at}
-use Rattle.answers.specs.declared.Verdict.{Verdict}
+use Rattle.answers.specs.Answer.{Verdict}
 use Rattle.operations.specs.Alphabet.{stride}
 use Rattle.places.specs.declared.Place.{Place}
 use Rattle.image.specs.declared.machine.Header.{Header}
@@ -233,7 +234,7 @@ module _ (h : Header) (rows : List ℕ) (can : Canonical h rows) where
   no_barred i l = good_as i (omega (arith, length_image)) (stands_at 1 i) (stands i) refl
 
   -- the image of a machine of the layout is accepted
-  pub canonical_accepted : verdict_of (image_of h rows) ≡ Verdict.Accepted
+  pub canonical_accepted : verdict_of (image_of h rows) ≡ (Ok tt)
   unfolding verdict_of
   canonical_accepted =
       rw (

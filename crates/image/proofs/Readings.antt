@@ -1,4 +1,5 @@
 -- What reading an image gives: by the verdict, and of an accepted image by the room in the rows. Assumes nothing.
+use Rattle.std.proofs.Common.{Ok, Err}
 use Prim.Native.Nat.{ℕ, ◌*◌, ◌<◌, ◌≤◌}
 use mathlib.Core.Path.{◌≡◌, refl, sym, subst, ◌∙◌}
 use mathlib.Core.List.{List}
@@ -7,7 +8,7 @@ use borrow.Author.Tests.{le-leb, lt-leb}
 use lib.ListN.{length}
 use Rattle.answers.specs.Buffer.{buffer_with}
 use Rattle.answers.specs.declared.Refusal.{Refusal}
-use Rattle.answers.specs.declared.Verdict.{Verdict}
+use Rattle.answers.specs.Answer.{Verdict}
 use Rattle.operations.specs.Alphabet.{stride}
 use Rattle.image.specs.declared.machine.Header.{Header}
 use Rattle.image.specs.declared.machine.Reading.{Reading}
@@ -23,7 +24,7 @@ length-rows image = length-listed _ _
 
 module _ (image rows : List ℕ) (n : ℕ) (states : n ≡ states_of image) where
   pub read_short : (r : Reading) → length rows < n * stride → r ≡ refused_reading Refusal.BufferTooSmall
-      → ReadsAs Verdict.Accepted image rows r rows
+      → ReadsAs (Ok tt) image rows r rows
   unfolding buffer_with
   read_short r l e =
       record {
@@ -32,17 +33,17 @@ module _ (image rows : List ℕ) (n : ℕ) (states : n ≡ states_of image) wher
       }
 
   pub read_whole : (rows' : List ℕ) (h : Header) → n * stride ≤ length rows → h ≡ header_of image → Filled rows (row_word image) (n * stride) rows'
-      → ReadsAs Verdict.Accepted image rows (record { verdict = Verdict.Accepted; header = h }) rows'
+      → ReadsAs (Ok tt) image rows (record { verdict = (Ok tt); header = h }) rows'
   unfolding rows_of
   read_whole rows' h l e f =
       record {
         reading =
-            rw (le-leb (states_of image * stride) (length rows) (omega arith)) (λ i. record { verdict = Verdict.Accepted; header = e i });
+            rw (le-leb (states_of image * stride) (length rows) (omega arith)) (λ i. record { verdict = (Ok tt); header = e i });
         filled = filled_whole (filled_to f (states_of image * stride) (omega arith));
       }
 
 -- an image that is refused leaves the rows as they were
-pub read_refused : (image rows : List ℕ) (why : Refusal) (r : Reading) → r ≡ refused_reading why → ReadsAs (Verdict.Refused why) image rows r rows
+pub read_refused : (image rows : List ℕ) (why : Refusal) (r : Reading) → r ≡ refused_reading why → ReadsAs (Err why) image rows r rows
 read_refused image rows why r e = record { reading = e; filled = refl }
 
 -- by the verdict

@@ -1,5 +1,6 @@
 -- What is read from an image, into rows that have room for any machine, is the machine of the image, and is written back as the image itself.
 -- Assumes nothing.
+use Rattle.std.proofs.Common.{Ok, Err}
 use Prim.Native.Nat.{ℕ, ◌*◌, ◌<◌, ◌≤◌}
 use mathlib.Core.Path.{◌≡◌, refl, sym, ap, ap₂, ◌∙◌}
 use mathlib.Core.List.{List, [], ◌∷◌}
@@ -10,10 +11,10 @@ use lib.Seq.{take_at}
 use Rattle.ground.specs.Bytes.{at}
 use Rattle.answers.specs.Buffer.{buffer_with}
 use Rattle.answers.specs.declared.Refusal.{Refusal}
-use Rattle.answers.specs.declared.Answer.{Answer}
+use Rattle.answers.specs.Answer.{Answer, done}
 use Rattle.answers.specs.Given.{gives, Delivers, unless_refused}
 use Rattle.answers.proofs.Given.{delivers_refusal, delivers_as}
-use Rattle.answers.specs.declared.Verdict.{Verdict}
+use Rattle.answers.specs.Answer.{Verdict}
 use Rattle.operations.specs.Alphabet.{stride}
 use Rattle.image.specs.declared.machine.Header.{Header}
 use Rattle.image.specs.declared.machine.Reading.{Reading}
@@ -34,13 +35,13 @@ module _ (image : List ℕ) (bytes : (i : ℕ) → at image i < 256) where
   room = omega (arith, bytes 4, length-replicate {A = ℕ} (255 * stride) 0)
 
   verdict_kept : (v : Verdict) → (read_as image (length rows) v).verdict ≡ v
-  verdict_kept (Verdict.Refused why) = refl
-  verdict_kept Verdict.Accepted = rw (le-leb (states_of image * stride) (length rows) room)
+  verdict_kept (Err why) = refl
+  verdict_kept (Ok tt) = rw (le-leb (states_of image * stride) (length rows) room)
 
-  accepted_header : (read_as image (length rows) Verdict.Accepted).header ≡ header_of image
+  accepted_header : (read_as image (length rows) (Ok tt)).header ≡ header_of image
   accepted_header = rw (le-leb (states_of image * stride) (length rows) room)
 
-  accepted_rows : take (states_of image * stride) (rows_as image rows Verdict.Accepted) ≡ rows_of image
+  accepted_rows : take (states_of image * stride) (rows_as image rows (Ok tt)) ≡ rows_of image
   unfolding buffer_with
   accepted_rows =
       rw (le-leb (length (rows_of image)) (length rows) (omega (arith, length-rows image, room)))
@@ -50,12 +51,12 @@ module _ (image : List ℕ) (bytes : (i : ℕ) → at image i < 256) where
     pub verdict_is : r.verdict ≡ verdict_of image
     verdict_is = ap (λ (x : Reading). x.verdict) reads.reading ∙ verdict_kept (verdict_of image)
 
-    pub back_refused : (why : Refusal) (out : List ℕ) → r.verdict ≡ Verdict.Refused why → Delivers (written_back image) out (Answer.Refused why) out
+    pub back_refused : (why : Refusal) (out : List ℕ) → r.verdict ≡ Err why → Delivers (written_back image) out (Err why) out
     unfolding written_back
     back_refused why out v = delivers_as (ap (λ (v : Verdict). unless_refused v (gives image 0 0)) (sym v ∙ verdict_is)) (delivers_refusal out)
 
-    module _ (v : r.verdict ≡ Verdict.Accepted) where
-      pub accepted : verdict_of image ≡ Verdict.Accepted
+    module _ (v : r.verdict ≡ (Ok tt)) where
+      pub accepted : verdict_of image ≡ (Ok tt)
       accepted = sym verdict_is ∙ v
 
       pub header_is : r.header ≡ header_of image
@@ -81,7 +82,7 @@ module _ (image : List ℕ) (bytes : (i : ℕ) → at image i < 256) where
           delivers_as (ap (λ (l : List ℕ). gives l 0 0) (same_image n e) ∙ ap (λ (v : Verdict). unless_refused v (gives image 0 0)) (sym accepted)) h
 
 -- the four numbers of an image that was written back
-pub header_told : (image : List ℕ) (a : Answer) (n fences state : ℕ) {way states ups targets : ℕ} → a ≡ Answer.Done n fences state
+pub header_told : (image : List ℕ) (a : Answer) (n fences state : ℕ) {way states ups targets : ℕ} → a ≡ Ok (done n fences state)
     → way ≡ at image 3 → states ≡ states_of image → ups ≡ upstream_fences_of image → targets ≡ target_fences_of image
     → way ∷ states ∷ ups ∷ targets ∷ [] ≡ header_as image a
 header_told image a n fences state e w s u t = cc

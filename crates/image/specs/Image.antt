@@ -2,11 +2,11 @@
 -- A machine is its header and its rows: a word for each state and letter, at a constant stride, 256 times the fence byte and the next state.
 -- The letters are l, L, s, S and then the upstream fences, whose words have FF for a fence byte; the word of a letter that the machine has not
 -- is 0.
-use Rattle.std.specs.Prelude.{ℕ, zero, suc, ◌+◌, ◌-◌, ◌*◌, ◌/◌, ◌%◌, ◌<◌, ◌≤◌, ◌≡◌, true, cond, ◌⊎◌, List, [], ◌∷◌, ◌++◌, leb, ltb, eqb, length, replicate}
+use Rattle.std.specs.Prelude.{ℕ, zero, suc, ◌+◌, ◌-◌, ◌*◌, ◌/◌, ◌%◌, ◌<◌, ◌≤◌, ◌≡◌, true, cond, ◌⊎◌, List, [], ◌∷◌, ◌++◌, leb, ltb, eqb, length, replicate, Ok, Err}
 use Rattle.ground.specs.Bytes.{at, name_byte}
 use Rattle.answers.specs.Buffer.{buffer_with}
 use Rattle.answers.specs.declared.Refusal.{Refusal}
-use Rattle.answers.specs.declared.Verdict.{Verdict}
+use Rattle.answers.specs.Answer.{Verdict}
 use Rattle.operations.specs.Alphabet.{access_letters, stride}
 use Rattle.places.specs.declared.Place.{Place}
 use Rattle.image.specs.declared.machine.Header.{Header}
@@ -97,17 +97,17 @@ abbrev pub no_header : Header
 no_header = record { way = 0; states = 0; ups = 0; targets = 0; upstream = replicate 16 0; target = replicate 16 0 }
 
 abbrev pub refused_reading : Refusal → Reading
-refused_reading why = record { verdict = Verdict.Refused why; header = no_header }
+refused_reading why = record { verdict = Err why; header = no_header }
 
 abbrev pub read_as : List ℕ → ℕ → Verdict → Reading
-read_as image room (Verdict.Refused why) = refused_reading why
-read_as image room Verdict.Accepted =
-    cond (leb (states_of image * stride) room) (record { verdict = Verdict.Accepted; header = header_of image })
+read_as image room (Err why) = refused_reading why
+read_as image room (Ok tt) =
+    cond (leb (states_of image * stride) room) (record { verdict = (Ok tt); header = header_of image })
     (refused_reading Refusal.BufferTooSmall)
 
 abbrev pub rows_as : List ℕ → List ℕ → Verdict → List ℕ
-rows_as image rows (Verdict.Refused why) = rows
-rows_as image rows Verdict.Accepted = buffer_with (rows_of image) rows
+rows_as image rows (Err why) = rows
+rows_as image rows (Ok tt) = buffer_with (rows_of image) rows
 
 pub record ReadsAs (v : Verdict) (image rows : List ℕ) (r : Reading) (rows' : List ℕ) : Type 0 where
   pub reading : r ≡ read_as image (length rows) v

@@ -16,8 +16,8 @@ fn write_back(image: &[u8], out: &mut [u8]) -> Answer
     let verdict = reading.verdict;
     let header = reading.header;
     match verdict {
-        Verdict::Refused(why) => Answer::Refused(why),
-        Verdict::Accepted => {
+        Err(why) => Err(why),
+        Ok(()) => {
             let n = ground::wide(header.states) * STRIDE;
             writer::write(header, &rows[..n], out)
         }
@@ -46,7 +46,7 @@ fn header_of(image: &[u8], answer: Answer) -> [u64; 4]
             header_number(image, 5),
             header_number(image, 6),
         ],
-        Answer::Refused(_) => [0, 0, 0, 0],
+        Err(_) => [0, 0, 0, 0],
     }
 }
 

@@ -78,7 +78,7 @@ fn refused(why: Refusal) -> Reading
         target: [0; 16],
     };
     Reading {
-        verdict: Verdict::Refused(why),
+        verdict: Err(why),
         header,
     }
 }
@@ -93,7 +93,7 @@ fn read_accepted(image: &[u8], rows: &mut [u16]) -> Reading
     }
     fill_rows(image, rows, count);
     Reading {
-        verdict: Verdict::Accepted,
+        verdict: Ok(()),
         header: header(image),
     }
 }
@@ -104,7 +104,7 @@ pub fn read(image: &[u8], rows: &mut [u16]) -> Reading
 {
     let verdict = verdict::examine(image);
     match verdict {
-        Verdict::Refused(why) => refused(why),
-        Verdict::Accepted => read_accepted(image, rows),
+        Err(why) => refused(why),
+        Ok(()) => read_accepted(image, rows),
     }
 }

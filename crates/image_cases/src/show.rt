@@ -119,10 +119,10 @@ pub(crate) fn print_words(words: &[u16]) {
 
 pub(crate) fn print_verdict(verdict: Verdict) {
     match verdict {
-        Verdict::Accepted => {
+        Ok(()) => {
             io::write_all(1, b"accepted");
         }
-        Verdict::Refused(why) => {
+        Err(why) => {
             io::write_all(1, b"refused ");
             io::print_decimal(1, why.number());
             io::write_all(1, b" at ");

@@ -1,5 +1,6 @@
 -- A run over any image that is accepted, handmade too: no byte of its entries is barred, so each next state is a state, and what a fenced access
 -- puts out before it is a fence byte. Assumes nothing.
+use Rattle.std.proofs.Common.{Option, Some, None, Ok}
 use Prim.Native.Nat.{ℕ, suc, ◌+◌, ◌*◌, ◌<◌, ◌≤◌}
 use mathlib.Core.Path.{◌≡◌, refl, ap, ap₂, subst}
 use mathlib.Core.Logic.{◌⊎◌, inl, inr}
@@ -9,10 +10,9 @@ use native.Mathlib.Omega.{arith}
 use borrow.Author.Tests.{lt-ltb, le-ltb, eq-eqb, ne_eqb}
 use lib.ListN.{length, length-append}
 use Rattle.ground.specs.Bytes.{at}
-use Rattle.answers.specs.declared.Verdict.{Verdict}
+use Rattle.answers.specs.Answer.{Verdict}
 use Rattle.operations.specs.declared.Kind.{Kind}
 use Rattle.operations.specs.declared.Operation.{Operation}
-use Rattle.operations.specs.declared.Byte.{Byte}
 use Rattle.operations.specs.Operation.{byte_is, fence_byte, is_fence, fence_bytes}
 use Rattle.operations.specs.Alphabet.{letter_of}
 use Rattle.operations.proofs.Bytes.{fence_read}
@@ -68,16 +68,16 @@ whole_on image put n e (ended out m t) h = (h.0, omega (arith, e, h.1, fences-ap
 whole_on image put n e (stopped why i) h = tt
 
 -- an access is no fence, and the byte of a fence number is one
-access_counts : (b : ℕ) (k : Kind) → byte_is b ≡ Byte.Is (Operation.Access k) → fence_bytes (b ∷ []) ≡ 0
+access_counts : (b : ℕ) (k : Kind) → byte_is b ≡ Some (Operation.Access k) → fence_bytes (b ∷ []) ≡ 0
 unfolding fence_bytes
-access_counts b k e = ap (λ (x : Byte). is_fence x + 0) e
+access_counts b k e = ap (λ (x : Option Operation). is_fence x + 0) e
 
-fence_counts : (g b : ℕ) (k : Kind) → g < 16 → byte_is b ≡ Byte.Is (Operation.Access k) → fence_bytes (fence_byte g ∷ b ∷ []) ≡ 1
+fence_counts : (g b : ℕ) (k : Kind) → g < 16 → byte_is b ≡ Some (Operation.Access k) → fence_bytes (fence_byte g ∷ b ∷ []) ≡ 1
 unfolding fence_bytes
-fence_counts g b k l e = ap₂ (λ (x y : Byte). is_fence x + (is_fence y + 0)) (fence_read g l) e
+fence_counts g b k l e = ap₂ (λ (x y : Option Operation). is_fence x + (is_fence y + 0)) (fence_read g l) e
 
 module _ (image : List ℕ) (bytes : (i : ℕ) → at image i < 256) (faultless : Faultless image) where
-  access_sound : (b : ℕ) (k : Kind) → byte_is b ≡ Byte.Is (Operation.Access k) → (fence next : ℕ)
+  access_sound : (b : ℕ) (k : Kind) → byte_is b ≡ Some (Operation.Access k) → (fence next : ℕ)
       → (fence ≡ 254) ⊎ ((fence < target_fences_of image) ⊎ (fence ≡ 255)) → ((fence ≡ 254 → ⊥) → next < states_of image)
       → Sound image b (access_step fence next)
   access_sound b k e fence next allowed leads = by (ℕ_discrete fence 254) (ℕ_discrete fence 255) allowed
@@ -96,17 +96,17 @@ module _ (image : List ℕ) (bytes : (i : ℕ) → at image i < 256) (faultless 
   unfolding step_at fence_bytes
   step_sound s b l = by (byte_is b) refl
     where
-      passed : (f : ℕ) → Dec (f < upstream_fences_of image) → Sound image b (step_as image s (Byte.Is (Operation.Fence f)))
+      passed : (f : ℕ) → Dec (f < upstream_fences_of image) → Sound image b (step_as image s (Some (Operation.Fence f)))
       passed f (yes k) = rw (lt-ltb f (upstream_fences_of image) k) (entry_onward image faultless s l f k, refl)
       passed f (no k) = rw (le-ltb f (upstream_fences_of image) (omega arith)) tt
 
-      by : (x : Byte) → byte_is b ≡ x → Sound image b (step_as image s x)
-      by Byte.Nothing e = tt
-      by (Byte.Is (Operation.Access k)) e =
+      by : (x : Option Operation) → byte_is b ≡ x → Sound image b (step_as image s x)
+      by None e = tt
+      by (Some (Operation.Access k)) e =
           access_sound b k e (at image (position 1 s (2 * letter_of k))) (at image (position 1 s (2 * letter_of k + 1)))
           (entry_fence image faultless s l (letter_of k) (letter_few k) (bytes _))
           (entry_next image faultless s l (letter_of k) (letter_few k))
-      by (Byte.Is (Operation.Fence f)) e = passed f (dec_lt f (upstream_fences_of image))
+      by (Some (Operation.Fence f)) e = passed f (dec_lt f (upstream_fences_of image))
 
   whole : (stream : List ℕ) (s : ℕ) → s < states_of image → Whole image (walked image s stream)
   unfolding walked fence_bytes
@@ -120,7 +120,7 @@ module _ (image : List ℕ) (bytes : (i : ℕ) → at image i < 256) (faultless 
 
 -- For readers: over every accepted image, from any of its states, a run that ends ends in a state of the image, and the fences that it tells are the
 -- fence bytes that it put out.
-module _ (image : List ℕ) (bytes : (i : ℕ) → at image i < 256) (accepted : verdict_of image ≡ Verdict.Accepted) {s : ℕ} (start : s < states_of image)
+module _ (image : List ℕ) (bytes : (i : ℕ) → at image i < 256) (accepted : verdict_of image ≡ (Ok tt)) {s : ℕ} (start : s < states_of image)
     (stream : List ℕ) {out : List ℕ} {fences t : ℕ} (ran : walked image s stream ≡ ended out fences t) where
   found : (t < states_of image) × (fences ≡ fence_bytes out)
   found = subst (Whole image) ran (whole image bytes (accepted_faultless image accepted) stream s start)

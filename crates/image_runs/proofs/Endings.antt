@@ -1,4 +1,5 @@
 -- What a run's ending answers, and the stages before it: an image refused, a start out of range, a stream over its limit. Assumes nothing.
+use Rattle.std.proofs.Common.{Ok, Err}
 use Prim.Native.Nat.{ℕ, ◌<◌, ◌≤◌}
 use mathlib.Core.Path.{◌≡◌, sym, ap, subst, ◌∙◌}
 use mathlib.Core.List.{List}
@@ -6,8 +7,8 @@ use native.Mathlib.Omega.{arith}
 use borrow.Author.Tests.{lt-ltb, le-ltb, le-leb, lt-leb}
 use lib.ListN.{length, take}
 use Rattle.answers.specs.declared.Refusal.{Refusal}
-use Rattle.answers.specs.declared.Answer.{Answer}
-use Rattle.answers.specs.declared.Verdict.{Verdict}
+use Rattle.answers.specs.Answer.{Answer}
+use Rattle.answers.specs.Answer.{Verdict}
 use Rattle.answers.specs.Given.{gives, refuses, Delivers}
 use Rattle.answers.proofs.Given.{delivers_refusal, delivers_as}
 use Rattle.image_runs.specs.declared.Stop.{Stop}
@@ -23,7 +24,7 @@ refusal_is why is i e = ap (λ (w : Stop). refusal_of w i) (sym e)
 
 module _ (r : Walked) (e : Ending) (room : List ℕ) (ends : Ends r e room) where
   pub run_refused : (why : Stop) (i : ℕ) (x : Refusal) (out : List ℕ) → e ≡ Ending.Stopped why i → x ≡ refusal_of why i
-      → Delivers (outcome_of r) out (Answer.Refused x) out
+      → Delivers (outcome_of r) out (Err x) out
   run_refused why i x out h w =
       let s : r ≡ stopped why i = subst (λ (y : Ending). Ends r y room) h ends in
       delivers_as (ap refuses w ∙ ap outcome_of (sym s)) (delivers_refusal out)
@@ -39,15 +40,15 @@ module _ (r : Walked) (e : Ending) (room : List ℕ) (ends : Ends r e room) wher
 
 -- the stages of a run over an image that is accepted
 module _ (image : List ℕ) (start : ℕ) (stream out : List ℕ) {n : ℕ} (states : n ≡ states_of image) where
-  pub start_refused : n ≤ start → Delivers (run_as image start stream Verdict.Accepted) out (Answer.Refused Refusal.OutOfRange) out
+  pub start_refused : n ≤ start → Delivers (run_as image start stream (Ok tt)) out (Err Refusal.OutOfRange) out
   start_refused l = rw (le-ltb start (states_of image) (omega arith)) (delivers_refusal out)
 
   pub length-refused : start < n → stream_limit < length stream
-      → Delivers (run_as image start stream Verdict.Accepted) out (Answer.Refused Refusal.OverLimit) out
+      → Delivers (run_as image start stream (Ok tt)) out (Err Refusal.OverLimit) out
   length-refused l k = rw (lt-ltb start (states_of image) (omega arith), lt-leb (length stream) stream_limit k) (delivers_refusal out)
 
   pub walk_given : {after : List ℕ} {r : Answer} → start < n → length stream ≤ stream_limit
-      → Delivers (outcome_of (walked image start stream)) out r after → Delivers (run_as image start stream Verdict.Accepted) out r after
+      → Delivers (outcome_of (walked image start stream)) out r after → Delivers (run_as image start stream (Ok tt)) out r after
   walk_given l k d = rw (lt-ltb start (states_of image) (omega arith), le-leb (length stream) stream_limit k) d
 
 -- by the verdict

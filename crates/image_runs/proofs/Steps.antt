@@ -1,4 +1,5 @@
 -- The steps of a run over an image, by the tests of their definitions. Assumes nothing.
+use Rattle.std.proofs.Common.{Option, Some}
 use Prim.Native.Nat.{ℕ, ◌+◌, ◌*◌, ◌<◌, ◌≤◌}
 use mathlib.Core.Path.{◌≡◌, sym, ap, ap₂, ◌∙◌}
 use mathlib.Core.List.{List}
@@ -8,7 +9,6 @@ use Rattle.ground.specs.Bytes.{at}
 use Rattle.operations.specs.Alphabet.{letter_of}
 use Rattle.operations.specs.declared.Kind.{Kind}
 use Rattle.operations.specs.declared.Operation.{Operation}
-use Rattle.operations.specs.declared.Byte.{Byte}
 use Rattle.operations.specs.Operation.{byte_is, fence_byte}
 use Rattle.image_runs.specs.declared.Stop.{Stop}
 use Rattle.image_runs.specs.declared.Move.{Move}
@@ -35,7 +35,7 @@ module _ (fence next : ℕ) (small : next < 256) where
 -- the entry of an access
 pub step_access : (image : List ℕ) (s : ℕ) (k : Kind) (a p f n : ℕ) (r : Step) → a ≡ letter_of k → p ≡ entry_start 1 s
     → f ≡ at image (p + 2 * a) → n ≡ at image (p + 2 * a + 1) → (r ≡ access_step f n) × Small r
-    → (r ≡ step_as image s (Byte.Is (Operation.Access k))) × Small r
+    → (r ≡ step_as image s (Some (Operation.Access k))) × Small r
 step_access image s k a p f n r c e h l w =
     let o : p + 2 * a ≡ position 1 s (2 * letter_of k) = omega arith in
     let q : p + 2 * a + 1 ≡ position 1 s (2 * letter_of k + 1) = omega arith in (
@@ -44,22 +44,22 @@ step_access image s k a p f n r c e h l w =
     )
 
 module _ (image : List ℕ) (s f u : ℕ) (ups : u ≡ upstream_fences_of image) where
-  pub step_no_fence : u ≤ f → (Step.Stopped Stop.NoSuchFence ≡ step_as image s (Byte.Is (Operation.Fence f))) × Unit {0}
+  pub step_no_fence : u ≤ f → (Step.Stopped Stop.NoSuchFence ≡ step_as image s (Some (Operation.Fence f))) × Unit {0}
   step_no_fence l = (rw (← ups, le-ltb f u l), tt)
 
   pub step_passed : (p n : ℕ) → f < u → p ≡ entry_start 1 s → n ≡ at image (p + (8 + f)) → n < 256
-      → (Step.Taken (Move.Passed n) ≡ step_as image s (Byte.Is (Operation.Fence f))) × (n < 256)
+      → (Step.Taken (Move.Passed n) ≡ step_as image s (Some (Operation.Fence f))) × (n < 256)
   step_passed p n l e h k = (
     rw (← ups, lt-ltb f u l) (ap (λ (x : ℕ). Step.Taken (Move.Passed x)) (h ∙ ap (λ (x : ℕ). at image (x + (8 + f))) e)),
     k,
   )
 
 -- by what the byte is
-pub step_byte : (image : List ℕ) (s b : ℕ) (read is : Byte) (r : Step) → read ≡ byte_is b → read ≡ is → (r ≡ step_as image s is) × Small r
+pub step_byte : (image : List ℕ) (s b : ℕ) (read is : Option Operation) (r : Step) → read ≡ byte_is b → read ≡ is → (r ≡ step_as image s is) × Small r
     → (r ≡ step_at image s b) × Small r
 unfolding step_at
 step_byte image s b read is r e h w = (w.0 ∙ ap (step_as image s) (sym h ∙ e), w.1)
 
-pub step_operation : (image : List ℕ) (s : ℕ) (o is : Operation) (r : Step) → o ≡ is → (r ≡ step_as image s (Byte.Is is)) × Small r
-    → (r ≡ step_as image s (Byte.Is o)) × Small r
-step_operation image s o is r h w = (w.0 ∙ ap (λ (x : Operation). step_as image s (Byte.Is x)) (sym h), w.1)
+pub step_operation : (image : List ℕ) (s : ℕ) (o is : Operation) (r : Step) → o ≡ is → (r ≡ step_as image s (Some is)) × Small r
+    → (r ≡ step_as image s (Some o)) × Small r
+step_operation image s o is r h w = (w.0 ∙ ap (λ (x : Operation). step_as image s (Some x)) (sym h), w.1)

@@ -5,13 +5,12 @@
 -- operations; the earliest of 4, "a byte is no operation", 5, "the upstream model has no such fence", and 6, "no fence will do for the way",
 -- each at its index; 7 last.
 -- This says all that a run over an image does, for every image that is accepted.
-use Rattle.std.specs.Prelude.{ℕ, ◌+◌, ◌*◌, List, [], ◌∷◌, ◌++◌, cond, leb, ltb, eqb, length}
+use Rattle.std.specs.Prelude.{ℕ, ◌+◌, ◌*◌, List, [], ◌∷◌, ◌++◌, cond, leb, ltb, eqb, length, Option, Some, None}
 use Rattle.ground.specs.Bytes.{at}
 use Rattle.answers.specs.Given.{Given, gives, refuses, unless_refused}
 use Rattle.answers.specs.declared.Refusal.{Refusal}
-use Rattle.answers.specs.declared.Verdict.{Verdict}
+use Rattle.answers.specs.Answer.{Verdict}
 use Rattle.operations.specs.declared.Operation.{Operation}
-use Rattle.operations.specs.declared.Byte.{Byte}
 use Rattle.operations.specs.Operation.{byte_is, fence_byte}
 use Rattle.operations.specs.Alphabet.{letter_of}
 use Rattle.image_runs.specs.declared.Stop.{Stop}
@@ -28,11 +27,11 @@ access_step fence next =
     (Step.Taken (cond (eqb fence 255) (Move.Plain next) (Move.Fenced (fence_byte fence) next)))
 
 -- what a state answers to a byte of the stream
-abbrev pub step_as : List ℕ → ℕ → Byte → Step
-step_as image s Byte.Nothing = Step.Stopped Stop.NoOperation
-step_as image s (Byte.Is (Operation.Access k)) =
+abbrev pub step_as : List ℕ → ℕ → Option Operation → Step
+step_as image s None = Step.Stopped Stop.NoOperation
+step_as image s (Some (Operation.Access k)) =
     access_step (at image (position 1 s (2 * letter_of k))) (at image (position 1 s (2 * letter_of k + 1)))
-step_as image s (Byte.Is (Operation.Fence f)) =
+step_as image s (Some (Operation.Fence f)) =
     cond (ltb f (upstream_fences_of image)) (Step.Taken (Move.Passed (at image (position 1 s (2 * accesses 1 + f))))) (Step.Stopped Stop.NoSuchFence)
 
 unfoldable pub step_at : List ℕ → ℕ → ℕ → Step

@@ -3,7 +3,7 @@
 
 ghost use Rattle.std.specs.Prelude.{◌+◌, ◌*◌, ◌^◌, ◌<◌, ◌≤◌, ◌≡◌, length};
 ghost use Rattle.answers.specs.Given.{Delivers};
-ghost use Rattle.operations.specs.declared.Byte.{Byte};
+ghost use Rattle.operations.specs.declared.Byte.{Option<Operation>};
 ghost use Rattle.operations.specs.declared.Operation.{Operation};
 ghost use Rattle.image_runs.specs.Run.{access_step, step_as, step_at, walked, refusal_of, outcome_of, stream_limit, run_as, run_over};
 ghost use Rattle.image_runs.specs.inner.Walking.{Small, Moved, Ends};
@@ -11,7 +11,7 @@ ghost use Rattle.image_runs.specs.inner.Walking.{Small, Moved, Ends};
 use answers::{Answer, Refusal, Verdict};
 use layout::verdict;
 use operations::alphabet::ACCESSES;
-use operations::{Byte, Kind, Operation, alphabet};
+use operations::{Option<Operation>, Kind, Operation, alphabet};
 
 // The limit of a stream.
 const LIMIT: usize = 4096;
@@ -89,8 +89,8 @@ fn take_byte(image: &[u8], state: usize, byte: u8) -> Step
 {
     let read = operations::read_byte(byte);
     match read {
-        Byte::Is(operation) => take(image, state, operation),
-        Byte::Nothing => Step::Stopped(Stop::NoOperation),
+        Some(operation) => take(image, state, operation),
+        None => Step::Stopped(Stop::NoOperation),
     }
 }
 
@@ -183,7 +183,7 @@ fn run_from<'a>(image: &'a [u8], start: usize, stream: &'a [u8], out: &mut [u8])
     let mut room = [0u8; 2 * LIMIT];
     let ending = run_all(image, start, stream, &mut room);
     match ending {
-        Ending::Stopped(why, i) => Answer::Refused(refusal(why, i)),
+        Ending::Stopped(why, i) => Err(refusal(why, i)),
         Ending::Ended(p) => {
             let n = p.written;
             answers::write_out(&room[..n], p.fences, p.state, out)
@@ -197,10 +197,10 @@ fn run_accepted<'a>(image: &'a [u8], start: u64, stream: &'a [u8], out: &mut [u8
 {
     let states = ground::number_at(image, 4);
     if states as u64 <= start {
-        return Answer::Refused(Refusal::OutOfRange);
+        return Err(Refusal::OutOfRange);
     }
     if LIMIT < stream.len() {
-        return Answer::Refused(Refusal::OverLimit);
+        return Err(Refusal::OverLimit);
     }
     run_from(image, start as usize, stream, out)
 }
@@ -211,7 +211,7 @@ pub fn run<'a>(image: &'a [u8], start: u64, stream: &'a [u8], out: &mut [u8]) ->
 {
     let verdict = verdict::examine(image);
     match verdict {
-        Verdict::Refused(why) => Answer::Refused(why),
-        Verdict::Accepted => run_accepted(image, start, stream, out),
+        Err(why) => Err(why),
+        Ok(()) => run_accepted(image, start, stream, out),
     }
 }

@@ -1,5 +1,6 @@
 -- An image that is accepted has no fault, since nothing was found by either search: its blocks are whole, its length is what its states want, and
 -- every byte of an entry is one that its place allows. Assumes nothing.
+use Rattle.std.proofs.Common.{Option, Some, None, Ok, Err}
 use Prim.Native.Nat.{ℕ, ◌+◌, ◌-◌, ◌*◌, ◌/◌, ◌<◌, ◌≤◌}
 use mathlib.Core.Path.{◌≡◌, refl, ap, subst}
 use mathlib.Core.Bool.{Bool, true, false, not, cond}
@@ -10,11 +11,10 @@ use native.Mathlib.Omega.{arith}
 use borrow.Author.Tests.{lt-ltb, le-leb, ne_eqb, ltb-false, leb-false, eqb-true, eqb-false}
 use lib.Dec.{leb, ltb, eqb}
 use lib.ListN.{length}
-use Rattle.ground.specs.declared.Found.{Found}
 use Rattle.ground.specs.Bytes.{at}
 use Rattle.ground.proofs.Truths.{differ, true_false}
 use Rattle.answers.specs.declared.Refusal.{Refusal}
-use Rattle.answers.specs.declared.Verdict.{Verdict}
+use Rattle.answers.specs.Answer.{Verdict}
 use Rattle.places.specs.declared.Place.{Place}
 use Rattle.blocks.specs.Checksum.{two_bytes}
 use Rattle.places.specs.Layout.{limit, blocks_for, stands_at, position}
@@ -29,19 +29,19 @@ use Rattle.layout.proofs.Failing.{neither, chosen, equal}
 use Rattle.places.proofs.Standing.{fence_at, next_at_lem, onward_at, within_image}
 
 -- the stages of an acceptance
-staged : (f g : Found) → stages f g ≡ Verdict.Accepted → (f ≡ Found.Nowhere) × (g ≡ Found.Nowhere)
-staged (Found.At b) g e = differ (cc)
-staged Found.Nowhere (Found.At i) e = differ (cc)
-staged Found.Nowhere Found.Nowhere e = (refl, refl)
+staged : (f g : Option ℕ) → stages f g ≡ (Ok tt) → (f ≡ None) × (g ≡ None)
+staged (Some b) g e = differ (cc)
+staged None (Some i) e = differ (cc)
+staged None None e = (refl, refl)
 
-pub accepted_faultless : (image : List ℕ) → verdict_of image ≡ Verdict.Accepted → Faultless image
+pub accepted_faultless : (image : List ℕ) → verdict_of image ≡ (Ok tt) → Faultless image
 unfolding verdict_of
 accepted_faultless image e = go (ltb limit (length image)) refl e
   where
     go : (t : Bool) → ltb limit (length image) ≡ t
-        → cond t (Verdict.Refused Refusal.OverLimit)
+        → cond t (Err Refusal.OverLimit)
         (stages (lowest_wrong image) (lowest_barred image))
-        ≡ Verdict.Accepted
+        ≡ (Ok tt)
         → Faultless image
     go true h w = differ (cc)
     go false h w =

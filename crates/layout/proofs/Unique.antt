@@ -2,7 +2,7 @@
 use Prim.Native.Nat.{ℕ}
 use mathlib.Core.Path.{◌≡◌, sym, ◌∙◌}
 use mathlib.Core.List.{List}
-use Rattle.answers.specs.declared.Verdict.{Verdict}
+use Rattle.answers.specs.Answer.{Verdict}
 use Rattle.layout.specs.Verdict.{verdict_of}
 
 pub examine_one : (image : List ℕ) {r r' : Verdict} → r ≡ verdict_of image → r' ≡ verdict_of image → r ≡ r'

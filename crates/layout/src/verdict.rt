@@ -6,7 +6,6 @@ ghost use Rattle.layout.specs.Verdict.{block_count, lowest_barred, stages, verdi
 ghost use Rattle.layout.specs.inner.Skipping.{Skips};
 
 use answers::{Refusal, Verdict};
-use ground::Found;
 
 // The limit of an image's length.
 pub const LIMIT: usize = 7168;
@@ -51,18 +50,18 @@ fn next_to_examine(image: &[u8], targets: usize, from: usize) -> usize
     past_zeros(image, from)
 }
 
-fn lowest_barred(image: &[u8]) -> Found
+fn lowest_barred(image: &[u8]) -> Option<usize>
     ensures { result ≡ lowest_barred image.now }
 {
     let targets = ground::number_at(image, 6);
     let mut i = 0;
     while i < image.len() {
         if barred::is_barred(image, i) {
-            return Found::At(i);
+            return Some(i);
         }
         i = next_to_examine(image, targets, i + 1);
     }
-    Found::Nowhere
+    None
 }
 
 // What is wrong with an image whose blocks are right.
@@ -71,8 +70,8 @@ fn examine_bytes(image: &[u8]) -> Verdict
 {
     let byte = lowest_barred(image);
     match byte {
-        Found::At(i) => Verdict::Refused(Refusal::BarredValue(i)),
-        Found::Nowhere => Verdict::Accepted,
+        Some(i) => Err(Refusal::BarredValue(i)),
+        None => Ok(()),
     }
 }
 
@@ -81,11 +80,11 @@ pub fn examine(image: &[u8]) -> Verdict
     ensures { result ≡ verdict_of image.now }
 {
     if LIMIT < image.len() {
-        return Verdict::Refused(Refusal::OverLimit);
+        return Err(Refusal::OverLimit);
     }
     let block = blocks::lowest_wrong(image, block_count(image));
     match block {
-        Found::At(b) => Verdict::Refused(Refusal::BrokenBlock(b)),
-        Found::Nowhere => examine_bytes(image),
+        Some(b) => Err(Refusal::BrokenBlock(b)),
+        None => examine_bytes(image),
     }
 }

@@ -1,4 +1,5 @@
 -- What an input's parts are listed as is determined: the stages exclude each other, and so are the rows of a machine. Assumes nothing.
+use Rattle.std.proofs.Common.{Some}
 use Prim.Native.Nat.{ℕ, ◌<◌}
 use mathlib.Core.Path.{◌≡◌, refl, sym, ap, subst, ◌∙◌}
 use mathlib.Core.List.{List, ◌++◌}
@@ -6,7 +7,6 @@ use Rattle.ground.proofs.Truths.{differ}
 use Rattle.ground.specs.Bytes.{bytes}
 use Rattle.answers.specs.Given.{Given, gives, refuses}
 use Rattle.rule.specs.declared.situation.Situation.{Situation}
-use Rattle.shims.specs.declared.WayRead.{WayRead}
 use Rattle.shims.specs.declared.Models.{Models}
 use Rattle.shims.specs.Opening.{opened_by}
 use Rattle.shims.proofs.Calls.{given_one}
@@ -71,5 +71,5 @@ models_one m stream g h (runs {output = a} e x) (runs {output = b} f y) =
 
 pub parts_one : (p : Parts) {g h : Given} → PartsListed p g → PartsListed p h → g ≡ h
 parts_one p {g} {h} a b =
-    given_one (opened_by (WayRead.Is p.way) p.upstream p.target) (λ (m : Models). ModelsListed m p.stream)
+    given_one (opened_by (Some p.way) p.upstream p.target) (λ (m : Models). ModelsListed m p.stream)
     (λ m g h. models_one m p.stream g h) g h a b

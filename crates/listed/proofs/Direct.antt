@@ -1,5 +1,6 @@
 -- What is known of a direct run that a listing takes up: it gives at most 8,191 bytes with 4,095 fences, so it fits the buffer, and the run's
 -- answer tells what it gives. Assumes nothing.
+use Rattle.std.proofs.Common.{Ok, Err}
 use Prim.Native.Nat.{ℕ, ◌≤◌}
 use mathlib.Core.Path.{◌≡◌, refl, sym, ap, ap₂, ◌∙◌}
 use mathlib.Core.Bool.{Bool, true, false, cond}
@@ -11,7 +12,7 @@ use lib.ListN.{length, take, drop, length-append}
 use lib.Seq.{take-append_seam}
 use Rattle.ground.proofs.Truths.{differ}
 use Rattle.answers.specs.declared.Refusal.{Refusal}
-use Rattle.answers.specs.declared.Answer.{Answer}
+use Rattle.answers.specs.Answer.{Answer, done}
 use Rattle.answers.specs.Given.{Given, gives, refuses, answer_of, buffer_of, Delivers}
 use Rattle.answers.proofs.Laws.{buffer_fits, answer_fits}
 use Rattle.rule.specs.Pairs.{Model}
@@ -60,24 +61,24 @@ pub record Taken (x : Given) (w f : ℕ) (after : List ℕ) : Type 0 where
 -- what the run's answer tells, where the buffer holds 8,192 bytes
 module _ (m : Models) (stream buffer : List ℕ) (size : length buffer ≡ 8192) {r : Answer} {after : List ℕ}
     (d : Delivers (run_given m stream) buffer r after) where
-  pub run_refused : {why : Refusal} → r ≡ Answer.Refused why → run_given m stream ≡ refuses why
+  pub run_refused : {why : Refusal} → r ≡ Err why → run_given m stream ≡ refuses why
   run_refused {why} e = by (run_given m stream) (run_short m stream) (sym e ∙ d.answer)
     where
-      by : (x : Given) → Short x → Answer.Refused why ≡ answer_of x (length buffer) → x ≡ refuses why
+      by : (x : Given) → Short x → Err why ≡ answer_of x (length buffer) → x ≡ refuses why
       by (gives bytes f s) h e =
-          let z : Answer.Refused why ≡ Answer.Done (length bytes) f s = e ∙ answer_fits bytes f s (length buffer) (omega (arith, h.0)) in
+          let z : Err why ≡ Ok (done (length bytes) f s) = e ∙ answer_fits bytes f s (length buffer) (omega (arith, h.0)) in
           differ (cc)
       by (refuses w) h e =
           let z : why ≡ w = cc in
           ap refuses (sym z)
 
-  pub run_taken : {w f s : ℕ} → r ≡ Answer.Done w f s → Taken (run_given m stream) w f after
+  pub run_taken : {w f s : ℕ} → r ≡ Ok (done w f s) → Taken (run_given m stream) w f after
   run_taken {w} {f} {s} e = by (run_given m stream) refl (run_short m stream) (sym e ∙ d.answer) d.buffer
     where
-      by : (y : Given) → run_given m stream ≡ y → Short y → Answer.Done w f s ≡ answer_of y (length buffer) → after ≡ buffer_of y buffer
+      by : (y : Given) → run_given m stream ≡ y → Short y → Ok (done w f s) ≡ answer_of y (length buffer) → after ≡ buffer_of y buffer
           → Taken (run_given m stream) w f after
       by (gives bytes g z) is h e b =
-          let same : Answer.Done w f s ≡ Answer.Done (length bytes) g z = e ∙ answer_fits bytes g z (length buffer) (omega (arith, h.0)) in
+          let same : Ok (done w f s) ≡ Ok (done (length bytes) g z) = e ∙ answer_fits bytes g z (length buffer) (omega (arith, h.0)) in
           let n : w ≡ length bytes = cc in
           let counted : f ≡ g = cc in
           let all : after ≡ bytes ++ drop (length bytes) buffer = b ∙ buffer_fits bytes buffer (omega (arith, h.0)) in

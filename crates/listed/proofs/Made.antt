@@ -1,5 +1,6 @@
 -- What is listed once the machine is made: each outcome is what the rule's machine comes to, and a machine that is made is within the limits.
 -- Assumes nothing.
+use Rattle.std.proofs.Common.{Option, Some, Ok, Err, Result}
 use Prim.Native.Nat.{ℕ, ◌+◌, ◌*◌, ◌%◌, ◌/◌, ◌^◌, ◌≤◌, ◌<◌}
 use mathlib.Core.Path.{◌≡◌, sym, ap, ap₂, subst, ◌∙◌}
 use mathlib.Core.Bool.{Bool, true, false, cond}
@@ -9,8 +10,8 @@ use lib.Dec.{eqb}
 use lib.ListN.{length}
 use Rattle.ground.specs.Bytes.{at}
 use Rattle.answers.specs.declared.Refusal.{Refusal}
-use Rattle.answers.specs.declared.Answer.{Answer}
-use Rattle.answers.specs.declared.Verdict.{Verdict}
+use Rattle.answers.specs.Answer.{Answer}
+use Rattle.answers.specs.Answer.{Verdict}
 use Rattle.answers.specs.Answer.{number_of, place_of}
 use Rattle.answers.specs.Given.{gives, refuses, Delivers, Answers}
 use Rattle.operations.specs.Alphabet.{letters_with, stride}
@@ -18,7 +19,6 @@ use Rattle.rule.specs.declared.way.Way.{Way}
 use Rattle.printing.specs.Putting.{Put, Fronts}
 use Rattle.printing.proofs.Names.{unfilled_short}
 use Rattle.printing.proofs.Putting.{put_fronts}
-use Rattle.shims.specs.declared.WayRead.{WayRead}
 use Rattle.shims.specs.declared.Models.{Models}
 use Rattle.shims.specs.declared.Opening.{Opening}
 use Rattle.shims.specs.Models.{model_of}
@@ -28,7 +28,6 @@ use Rattle.shims.proofs.Fences.{few_read, few_fences}
 use Rattle.operations.specs.Operation.{fence_bytes}
 use Rattle.mealy.specs.Runs.{refused, taken}
 use Rattle.machine.specs.declared.machine.Machine.{Machine}
-use Rattle.machine.specs.declared.machine.Outcome.{Outcome}
 use Rattle.machine.specs.Rows.{decoded, answer_at}
 use Rattle.machine.specs.Generated as machine
 use Rattle.machine.specs.Generated.{Unmade, Built}
@@ -42,12 +41,12 @@ use Rattle.listed.proofs.Longest.{listing-length, refused-length}
 
 module _ (m : Models) (sixteen : Sixteen m) (output : List ℕ) (fences : ℕ) (ran : RunOutput output fences)
     (rows rows' : List ℕ) (size : length rows ≡ 5100) where
-  abbrev Makes : Outcome → Type 0
+  abbrev Makes : Result Machine Refusal → Type 0
   Makes r =
       Built (rule_of m) m.way (length (model_of m.upstream).fences) (length (model_of m.target).fences) rows r rows'
 
-  listable : (r : Outcome) → Makes r → MadeListable r rows' output fences
-  listable (Outcome.Made x) b =
+  listable : (r : Result Machine Refusal) → Makes r → MadeListable r rows' output fences
+  listable (Ok x) b =
       record {
         few_states = b.few_states;
         rows_there = record {
@@ -57,10 +56,10 @@ module _ (m : Models) (sixteen : Sixteen m) (output : List ℕ) (fences : ℕ) (
         short_output = ran.fits;
         few_fences = omega (arith, ran.count, ran.few);
       }
-  listable (Outcome.Refused why) b = tt
+  listable (Err why) b = tt
 
   listed_as : (x : Machine) → x.ups ≡ length (model_of m.upstream).fences
-      → gives (listed_text m output x.states (answer_at rows')) (fence_bytes output) 0 ≡ made_given (Outcome.Made x) m rows' output fences
+      → gives (listed_text m output x.states (answer_at rows')) (fence_bytes output) 0 ≡ made_given (Ok x) m rows' output fences
   listed_as x e =
       ap₂ (λ (n f : ℕ). gives (listing (listing_of m x.states (letters_with n) (answer_at rows') output f)) f 0) (sym e) (sym ran.count)
 
@@ -69,15 +68,15 @@ module _ (m : Models) (sixteen : Sixteen m) (output : List ℕ) (fences : ℕ) (
   unlisted (machine.overfull f h) = overfull f h
   unlisted (machine.roomless f l d h) = absurd (omega (arith, h, l, size))
 
-  listed : (r : Outcome) → Makes r → MachineListed m output (made_given r m rows' output fences)
-  listed (Outcome.Made x) b =
+  listed : (r : Result Machine Refusal) → Makes r → MachineListed m output (made_given r m rows' output fences)
+  listed (Ok x) b =
       subst (MachineListed m output) (listed_as x b.its_ups) (made b.few_situations b.few_states b.states)
-  listed (Outcome.Refused why) b = unlisted b.0
+  listed (Err why) b = unlisted b.0
 
-  pub made_listable : (r : Outcome) → MachineMade m rows r rows' → MadeListable r rows' output fences
+  pub made_listable : (r : Result Machine Refusal) → MachineMade m rows r rows' → MadeListable r rows' output fences
   made_listable r g = listable r (made_read m sixteen.upstream sixteen.target g)
 
-  pub made_listed : {r : Outcome} {out after : List ℕ} {a : Answer} → MachineMade m rows r rows'
+  pub made_listed : {r : Result Machine Refusal} {out after : List ℕ} {a : Answer} → MachineMade m rows r rows'
       → Delivers (made_given r m rows' output fences) out a after → Answers (MachineListed m output) out a after
   made_listed {r} g d = record {
     given = made_given r m rows' output fences;
@@ -86,17 +85,17 @@ module _ (m : Models) (sixteen : Sixteen m) (output : List ℕ) (fences : ℕ) (
   }
 
 -- models that were read
-sixteen_read : (read : WayRead) (upstream target : List ℕ) → (opened_by read upstream target).verdict ≡ Verdict.Accepted
+sixteen_read : (read : Option Way) (upstream target : List ℕ) → (opened_by read upstream target).verdict ≡ (Ok tt)
     → Sixteen (opened_by read upstream target).models
 sixteen_read read upstream target e =
     let o = opens read upstream target e in
     record { upstream = few_read upstream o.upstream_read; target = few_read target o.target_read }
 
-pub sixteen_opened : {o : Opening} (way : Way) (upstream target : List ℕ) → o ≡ opened_by (WayRead.Is way) upstream target
-    → o.verdict ≡ Verdict.Accepted → Sixteen o.models
+pub sixteen_opened : {o : Opening} (way : Way) (upstream target : List ℕ) → o ≡ opened_by (Some way) upstream target
+    → o.verdict ≡ (Ok tt) → Sixteen o.models
 sixteen_opened way upstream target is e =
     subst (λ (x : Opening). Sixteen x.models) (sym is)
-    (sixteen_read (WayRead.Is way) upstream target (sym (ap (λ (x : Opening). x.verdict) is) ∙ e))
+    (sixteen_read (Some way) upstream target (sym (ap (λ (x : Opening). x.verdict) is) ∙ e))
 
 -- the next state of a word is below 256
 next_small : (w : ℕ) → next_state (decoded w) < 1000

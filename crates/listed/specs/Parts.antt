@@ -1,12 +1,11 @@
 -- What is listed of an input's parts. Document 01: "Order: ..; upstream text (1, 2, 3); target text; ..; stream length; the earliest of 4, 5, 6 in
 -- the stream; 8; 9; 7 last." The stream is judged before the machine is made.
-use Rattle.std.specs.Prelude.{ℕ, ◌≤◌, ◌≡◌, List}
+use Rattle.std.specs.Prelude.{ℕ, ◌≤◌, ◌≡◌, List, Some}
 use Rattle.answers.specs.declared.Refusal.{Refusal}
 use Rattle.answers.specs.Given.{Given, gives, refuses}
 use Rattle.rule.specs.declared.situation.Situation.{Situation}
 use Rattle.rule.specs.declared.way.Way.{Way}
 use Rattle.printing.specs.Name.{unfilled}
-use Rattle.shims.specs.declared.WayRead.{WayRead}
 use Rattle.shims.specs.declared.Models.{Models}
 use Rattle.shims.specs.Models.{model_of}
 use Rattle.shims.specs.Opening.{opened_by, GivenOnOpened}
@@ -60,4 +59,4 @@ pub data ModelsListed (m : Models) (stream : List ℕ) : Given → Type 0 where
 
 -- and before it the two texts are read
 abbrev pub PartsListed : Parts → Given → Type 0
-PartsListed p = GivenOnOpened (opened_by (WayRead.Is p.way) p.upstream p.target) λ (m : Models). ModelsListed m p.stream
+PartsListed p = GivenOnOpened (opened_by (Some p.way) p.upstream p.target) λ (m : Models). ModelsListed m p.stream

@@ -56,8 +56,8 @@ fn list_made<'a>(
         out.old result out.new }
 {
     match made {
-        Outcome::Made(machine) => write_listing(models, machine, rows, output, fences, out),
-        Outcome::Refused(why) => Answer::Refused(why),
+        Ok(machine) => write_listing(models, machine, rows, output, fences, out),
+        Err(why) => Err(why),
     }
 }
 
@@ -79,7 +79,7 @@ fn list_models(models: Models, stream: &[u8], out: &mut [u8]) -> Answer
     let mut output = [0u8; 8192];
     let answer = runs::run_models(models, stream, &mut output);
     match answer {
-        Answer::Refused(why) => Answer::Refused(why),
+        Err(why) => Err(why),
         Answer::Done {
             written,
             fences,
@@ -108,7 +108,7 @@ pub fn list_parts<'a>(
     let verdict = opening.verdict;
     let models = opening.models;
     match verdict {
-        Verdict::Refused(why) => Answer::Refused(why),
-        Verdict::Accepted => list_models(models, stream, out),
+        Err(why) => Err(why),
+        Ok(()) => list_models(models, stream, out),
     }
 }

@@ -1,5 +1,6 @@
 -- Why a call that gives a listing has done what `AcceptedInput` says, and is within the limits: all its stages have gone on, its names were read, its
 -- next states are states, and its run is short. Assumes nothing.
+use Rattle.std.proofs.Common.{Option, Some, Ok}
 use Prim.Native.Nat.{ℕ, ◌-◌, ◌≤◌, ◌<◌}
 use mathlib.Core.Path.{◌≡◌, refl, subst}
 use mathlib.Core.List.{List}
@@ -7,15 +8,14 @@ use mathlib.Core.Option.{Option, some}
 use native.Mathlib.Omega.{arith}
 use lib.ListN.{length, replicate, length-append, length-replicate}
 use Rattle.ground.proofs.Truths.{differ}
-use Rattle.answers.specs.declared.Verdict.{Verdict}
+use Rattle.answers.specs.Answer.{Verdict}
 use Rattle.answers.specs.Given.{Given, gives}
 use Rattle.models.specs.declared.model.Model.{Model}
-use Rattle.models.specs.declared.model.Reading.{Reading}
+use Rattle.models.specs.Told.{Reading}
 use Rattle.models.specs.Reading.{reading}
 use Rattle.models.specs.Told.{accepting, Told, over as too_long, departs, repeated, accepted}
 use Rattle.models.proofs.Words.{told}
 use Rattle.printing.proofs.Names.{unfilled_short}
-use Rattle.shims.specs.declared.WayRead.{WayRead}
 use Rattle.shims.specs.declared.Models.{Models}
 use Rattle.shims.specs.Opening.{opened_by, Opens}
 use Rattle.shims.proofs.Calls.{given_opened}
@@ -39,7 +39,7 @@ module _ (input text : List ℕ) (fences state : ℕ) where
   Accepts = AcceptedInput input text fences state
 
   by_machine : length input ≤ 32768 → (p : Parts) → shape input ≡ some p → (m : Models)
-      → Opens (WayRead.Is p.way) p.upstream p.target m → {output : List ℕ} → run_given m p.stream ≡ puts output
+      → Opens (Some p.way) p.upstream p.target m → {output : List ℕ} → run_given m p.stream ≡ puts output
       → {g : Given} → MachineListed m output g → g ≡ gives text fences state → Accepts
   by_machine l p s m o r (crowded h) e = differ (cc)
   by_machine l p s m o r (overfull f h) e = differ (cc)
@@ -62,16 +62,16 @@ module _ (input text : List ℕ) (fences state : ℕ) where
       }
 
   by_models : length input ≤ 32768 → (p : Parts) → shape input ≡ some p → (m : Models)
-      → Opens (WayRead.Is p.way) p.upstream p.target m → {g : Given} → ModelsListed m p.stream g
+      → Opens (Some p.way) p.upstream p.target m → {g : Given} → ModelsListed m p.stream g
       → g ≡ gives text fences state → Accepts
   by_models l p s m o (halts r) e = differ (cc)
   by_models l p s m o (runs r h) e = by_machine l p s m o r h e
 
   by_parts : length input ≤ 32768 → (p : Parts) → shape input ≡ some p → PartsListed p (gives text fences state) → Accepts
   by_parts l p s h =
-      let read = opened_by (WayRead.Is p.way) p.upstream p.target in
+      let read = opened_by (Some p.way) p.upstream p.target in
       let o = given_opened read (λ (m : Models). ModelsListed m p.stream) text fences state h in
-      by_models l p s read.models (opens (WayRead.Is p.way) p.upstream p.target o.0) o.1 refl
+      by_models l p s read.models (opens (Some p.way) p.upstream p.target o.0) o.1 refl
 
   by_shape : length input ≤ 32768 → {q : Option Parts} → shape input ≡ q → {g : Given} → ShapeListed q g → g ≡ gives text fences state → Accepts
   by_shape l s shapeless e = differ (cc)
@@ -82,7 +82,7 @@ module _ (input text : List ℕ) (fences state : ℕ) where
   by_length (within l h) e = by_shape l refl h e
 
 -- the name of a model that was read
-name-length : {t : List ℕ} {r : Reading} → Told t r → r.verdict ≡ Verdict.Accepted → length r.model.name.bytes ≤ 16
+name-length : {t : List ℕ} {r : Reading} → Told t r → r.verdict ≡ (Ok tt) → length r.model.name.bytes ≤ 16
 name-length (too_long l) e = differ (cc)
 name-length (departs l n k) e = differ (cc)
 name-length (repeated d k l f t s) e = differ (cc)

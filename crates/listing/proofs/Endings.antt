@@ -1,4 +1,5 @@
 -- What stands after the two texts: its first line is the way's, and the run's line is all that is left. Assumes nothing.
+use Rattle.std.proofs.Common.{Option, Some, None}
 use Prim.Native.Nat.{ℕ, ◌+◌, ◌-◌, ◌<◌}
 use mathlib.Core.Path.{◌≡◌, refl, sym, ap, ap₂, subst, ◌∙◌}
 use mathlib.Core.Bool.{Bool, true, false, ◌&&◌, cond}
@@ -12,7 +13,6 @@ use lib.Seq.{take_all, drop-drop}
 use Rattle.ground.proofs.Truths.{differ}
 use Rattle.ground.specs.Bytes.{bytes, same_bytes}
 use Rattle.rule.specs.declared.way.Way.{Way}
-use Rattle.shims.specs.declared.WayRead.{WayRead}
 use Rattle.listing.specs.Shape.{prefixed, lines, way_in, is_run, stream_of, ending_from, ending_of}
 use Rattle.listing.specs.inner.Finding.{LineOf, RunOf, OnlyRun, EndingOf}
 use Rattle.listing.proofs.Lines.{never_ending, part_rest}
@@ -59,12 +59,12 @@ run_long t e = by (leb 5 (length t)) refl e
 
 -- the way's line and the rest
 module _ {t : List ℕ} {n : ℕ} (line : LineOf t n) where
-  pub way_not : way_in (take n t) ≡ WayRead.Nothing → ending_of (lines t) ≡ none
+  pub way_not : way_in (take n t) ≡ None → ending_of (lines t) ≡ none
   way_not e = ap ending_of line.first ∙ by (lines (drop n t))
     where
       by : (xs : List (List ℕ)) → ending_of (take n t ∷ xs) ≡ none
       by [] = refl
-      by (r ∷ []) = ap (λ (w : WayRead). ending_from w r) e
+      by (r ∷ []) = ap (λ (w : Option Way). ending_from w r) e
       by (r ∷ x ∷ xs) = refl
 
   rest_long : RunOf (take (length t - n) (drop n t)) → 4 < length (drop n t)
@@ -73,7 +73,7 @@ module _ {t : List ℕ} {n : ℕ} (line : LineOf t n) where
   pub room : RunOf (take (length t - n) (drop n t)) → n + 4 < length t
   room r = omega (arith, rest_long r, length-drop n t)
 
-  pub ending_is : {way : Way} → WayRead.Is way ≡ way_in (take n t) → RunOf (take (length t - n) (drop n t)) → EndingOf t way (n + 4)
+  pub ending_is : {way : Way} → Some way ≡ way_in (take n t) → RunOf (take (length t - n) (drop n t)) → EndingOf t way (n + 4)
   ending_is {way} e part =
       let r : RunOf (drop n t) = subst (λ (x : List ℕ). RunOf x) (part_rest t n) part in
       let k : length (drop n t) - 5 ≡ length t - 1 - (n + 4) = omega (arith, length-drop n t) in
@@ -81,7 +81,7 @@ module _ {t : List ℕ} {n : ℕ} (line : LineOf t n) where
         inside = room part;
         whole =
             ap ending_of (line.first ∙ ap (λ (x : List (List ℕ)). take n t ∷ x) r.only)
-            ∙ ap (λ (w : WayRead). ending_from w (drop n t)) (sym e)
+            ∙ ap (λ (w : Option Way). ending_from w (drop n t)) (sym e)
             ∙ ap (λ (q : Bool). cond q (some (record { way = way; stream = stream_of (drop n t) })) none) r.run
             ∙ ap₂ (λ (m : ℕ) (s : List ℕ). some (record { way = way; stream = take m s })) k (drop-drop 4 n t);
       }

@@ -1,4 +1,5 @@
 -- Laws of lines: the first ends with the first line feed, and a text is found line after line. Assumes nothing.
+use Rattle.std.proofs.Common.{Option, Some, None}
 use Prim.Native.Nat.{ℕ, zero, suc, ◌+◌, ◌-◌, ◌≤◌, ◌<◌}
 use mathlib.Core.Path.{◌≡◌, refl, sym, ap, ap₂, subst, ◌∙◌}
 use mathlib.Core.Bool.{Bool, true, false, ◌&&◌, cond}
@@ -13,7 +14,6 @@ use lib.Seq.{take_all, take-add, drop-drop}
 use Rattle.ground.specs.Search.{index_of, index_after}
 use Rattle.ground.proofs.Sameness.{same_is}
 use Rattle.ground.specs.Bytes.{bytes, same_bytes}
-use Rattle.shims.specs.declared.WayRead.{WayRead}
 use Rattle.listing.specs.Shape.{prefixed, lines, Cut, joined, through, way_in, is_run, ending_from, ending_of}
 use Rattle.listing.specs.inner.Finding.{LineOf, NoLine, TextOf, GoesOn}
 
@@ -85,9 +85,9 @@ module _ (l : List ℕ) (h : length l ≤ index_of 10 l) where
       ap (λ (q : Bool). leb 5 (length l) && (same_bytes (take 4 l) (bytes "run ") && q)) (ne_eqb _ _ (no_feed l (length l - 1) h (omega arith)))
       ∙ and_never (leb 5 (length l)) (same_bytes (take 4 l) (bytes "run "))
 
-pub never_ending : (w : WayRead) (r : List ℕ) → is_run r ≡ false → ending_from w r ≡ none
-never_ending (WayRead.Is way) r e = rw e
-never_ending WayRead.Nothing r e = refl
+pub never_ending : (w : Option Way) (r : List ℕ) → is_run r ≡ false → ending_from w r ≡ none
+never_ending (Some way) r e = rw e
+never_ending None r e = refl
 
 through_whole : (l : List ℕ) → length l ≤ index_of 10 l → through (whole l) ≡ none
 unfolding through

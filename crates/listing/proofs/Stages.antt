@@ -1,11 +1,12 @@
 -- The stages of the call, each once it is known how it goes: what was found computes the shape. Assumes nothing.
+use Rattle.std.proofs.Common.{Err}
 use Prim.Native.Nat.{ℕ, ◌-◌, ◌≤◌, ◌<◌}
 use mathlib.Core.Path.{◌≡◌, sym, ap, subst, ◌∙◌}
 use mathlib.Core.List.{List}
 use mathlib.Core.Option.{Option, none, some}
 use lib.ListN.{length, take, drop}
 use Rattle.answers.specs.declared.Refusal.{Refusal}
-use Rattle.answers.specs.declared.Answer.{Answer}
+use Rattle.answers.specs.Answer.{Answer}
 use Rattle.answers.specs.Given.{Answers}
 use Rattle.answers.proofs.Given.{answers_refusal, answers_by}
 use Rattle.listed.specs.Parts.{Parts, PartsListed}
@@ -21,7 +22,7 @@ module _ {o : Option Parts} {out after : List ℕ} {r : Answer} where
   pub shape_some : {p : Parts} → o ≡ some p → Answers (PartsListed p) out r after → Answers (ShapeListed o) out r after
   shape_some e a = shape_as e (answers_by (λ g h. shaped h) a)
 
-pub shape_none : {o : Option Parts} (out : List ℕ) → o ≡ none → Answers (ShapeListed o) out (Answer.Refused (Refusal.NotOfTheForm 0)) out
+pub shape_none : {o : Option Parts} (out : List ℕ) → o ≡ none → Answers (ShapeListed o) out (Err (Refusal.NotOfTheForm 0)) out
 shape_none out e = shape_as e (answers_refusal (ShapeListed none) out shapeless)
 
 -- the target's text found in what follows the upstream's, and the upstream's in the input
@@ -34,7 +35,7 @@ pub upstream_found : (t : List ℕ) {n : ℕ} → TextOf t n → shape t ≡ wit
 upstream_found t {n} f =
     ap with_upstream f.whole ∙ ap (λ (x : List ℕ). with_target (take n t) (through (lines x))) (sym (part_rest t n))
 
-pub input_over : (input out : List ℕ) → 32768 < length input → Answers (Listed input) out (Answer.Refused Refusal.OverLimit) out
+pub input_over : (input out : List ℕ) → 32768 < length input → Answers (Listed input) out (Err Refusal.OverLimit) out
 input_over input out l = answers_refusal (Listed input) out (over l)
 
 pub input_within : {input out after : List ℕ} {r : Answer} → length input ≤ 32768 → Answers (ShapeListed (shape input)) out r after

@@ -1,11 +1,10 @@
 -- The shape of an input. Document 01: "The program `shimlist` reads two model texts, then a line `way full` or `way sparing`, then `run ` and a
 -- stream". "In the input a model text runs through the first line that is exactly `end`, and the `way` and `run` lines each end in a line feed
 -- with nothing after."
-use Rattle.std.specs.Prelude.{ℕ, ◌-◌, Bool, ◌&&◌, cond, List, [], ◌∷◌, ◌++◌, eqb, leb, length, get_or, take, drop}
+use Rattle.std.specs.Prelude.{ℕ, ◌-◌, Bool, ◌&&◌, cond, List, [], ◌∷◌, ◌++◌, eqb, leb, length, get_or, take, drop, Option, Some, None}
 use Rattle.std.proofs.Math.Option.{Option, none, some}
 use Rattle.ground.specs.Bytes.{bytes, same_bytes}
 use Rattle.rule.specs.declared.way.Way.{Way}
-use Rattle.shims.specs.declared.WayRead.{WayRead}
 use Rattle.listed.specs.Parts.{Parts}
 
 -- the lines of a text, each with its line feed; the last may lack it
@@ -31,10 +30,10 @@ unfoldable pub through : List (List ℕ) → Option Cut
 through [] = none
 through (x ∷ xs) = cond (same_bytes x (bytes "end\n")) (some (record { text = x; rest = xs })) (joined x (through xs))
 
-abbrev pub way_in : List ℕ → WayRead
+abbrev pub way_in : List ℕ → Option Way
 way_in x =
-    cond (same_bytes x (bytes "way full\n")) (WayRead.Is Way.Full)
-    (cond (same_bytes x (bytes "way sparing\n")) (WayRead.Is Way.Sparing) WayRead.Nothing)
+    cond (same_bytes x (bytes "way full\n")) (Some Way.Full)
+    (cond (same_bytes x (bytes "way sparing\n")) (Some Way.Sparing) None)
 
 -- `run `, a stream and a line feed
 abbrev pub is_run : List ℕ → Bool
@@ -48,9 +47,9 @@ pub record Ending : Type 0 where
   pub way : Way
   pub stream : List ℕ
 
-abbrev pub ending_from : WayRead → List ℕ → Option Ending
-ending_from (WayRead.Is way) r = cond (is_run r) (some (record { way = way; stream = stream_of r })) none
-ending_from WayRead.Nothing r = none
+abbrev pub ending_from : Option Way → List ℕ → Option Ending
+ending_from (Some way) r = cond (is_run r) (some (record { way = way; stream = stream_of r })) none
+ending_from None r = none
 
 abbrev pub ending_of : List (List ℕ) → Option Ending
 ending_of [] = none

@@ -9,7 +9,6 @@ ghost use Rattle.listing.specs.Listed.{ShapeListed, Listed};
 
 use crate::shape::Tail;
 use answers::{Answer, Refusal};
-use ground::Found;
 
 // Lists an input whose texts were found, and whose way and stream stand in the rest.
 fn list_tail<'a>(upstream: &'a [u8], target: &'a [u8], tail: &'a [u8], out: &mut [u8]) -> Answer
@@ -18,7 +17,7 @@ fn list_tail<'a>(upstream: &'a [u8], target: &'a [u8], tail: &'a [u8], out: &mut
 {
     let found = shape::tail_of(tail);
     match found {
-        Tail::Other => Answer::Refused(Refusal::NotOfTheForm(0)),
+        Tail::Other => Err(Refusal::NotOfTheForm(0)),
         Tail::Of { way, stream } => {
             let end = tail.len() - 1;
             listed::list_parts(way, upstream, target, &tail[stream..end], out)
@@ -33,8 +32,8 @@ fn list_rest<'a>(upstream: &'a [u8], rest: &'a [u8], out: &mut [u8]) -> Answer
 {
     let found = shape::text_end(rest);
     match found {
-        Found::Nowhere => Answer::Refused(Refusal::NotOfTheForm(0)),
-        Found::At(n) => list_tail(upstream, &rest[..n], &rest[n..], out),
+        None => Err(Refusal::NotOfTheForm(0)),
+        Some(n) => list_tail(upstream, &rest[..n], &rest[n..], out),
     }
 }
 
@@ -43,11 +42,11 @@ pub fn list(input: &[u8], out: &mut [u8]) -> Answer
     ensures { Answers (Listed input.now) out.old result out.new }
 {
     if 32768 < input.len() {
-        return Answer::Refused(Refusal::OverLimit);
+        return Err(Refusal::OverLimit);
     }
     let found = shape::text_end(input);
     match found {
-        Found::Nowhere => Answer::Refused(Refusal::NotOfTheForm(0)),
-        Found::At(n) => list_rest(&input[..n], &input[n..], out),
+        None => Err(Refusal::NotOfTheForm(0)),
+        Some(n) => list_rest(&input[..n], &input[n..], out),
     }
 }

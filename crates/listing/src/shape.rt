@@ -3,7 +3,6 @@ ghost use Rattle.std.specs.Prelude.{◌≡◌};
 ghost use Rattle.listing.specs.Shape.{way_in, is_run};
 ghost use Rattle.listing.specs.inner.Finding.{LineEnd, Looks, TextEnd, OnlyRun, EndingAt};
 
-use ground::Found;
 use rule::way::Way;
 use shims::WayRead;
 
@@ -23,14 +22,14 @@ pub(crate) enum Tail {
 }
 
 // The end of the first line, past its line feed.
-fn line_end(text: &[u8]) -> Found
+fn line_end(text: &[u8]) -> Option<usize>
     ensures { LineEnd text.now result }
 {
     let n = ground::find(text, 0, b'\n');
     if n < text.len() {
-        Found::At(n + 1)
+        Some(n + 1)
     } else {
-        Found::Nowhere
+        None
     }
 }
 
@@ -40,8 +39,8 @@ fn look(text: &[u8]) -> Looked
 {
     let line = line_end(text);
     match line {
-        Found::Nowhere => Looked::Nothing,
-        Found::At(n) => {
+        None => Looked::Nothing,
+        Some(n) => {
             if ground::same(&text[..n], b"end\n") {
                 Looked::End(n)
             } else {
@@ -52,31 +51,31 @@ fn look(text: &[u8]) -> Looked
 }
 
 // The end of the text that begins here.
-pub(crate) fn text_end(text: &[u8]) -> Found
+pub(crate) fn text_end(text: &[u8]) -> Option<usize>
     ensures { TextEnd text.now result }
 {
     let mut at = 0;
     while at < text.len() {
         let looked = look(&text[at..]);
         match looked {
-            Looked::Nothing => return Found::Nowhere,
-            Looked::End(n) => return Found::At(at + n),
+            Looked::Nothing => return None,
+            Looked::End(n) => return Some(at + n),
             Looked::More(n) => at += n,
         }
     }
-    Found::Nowhere
+    None
 }
 
-fn way_in(line: &[u8]) -> WayRead
+fn way_in(line: &[u8]) -> Option<Way>
     ensures { result ≡ way_in line.now }
 {
     if ground::same(line, b"way full\n") {
-        return WayRead::Is(Way::Full);
+        return Some(Way::Full);
     }
     if ground::same(line, b"way sparing\n") {
-        return WayRead::Is(Way::Sparing);
+        return Some(Way::Sparing);
     }
-    WayRead::Nothing
+    None
 }
 
 fn is_run(line: &[u8]) -> bool
@@ -97,8 +96,8 @@ fn only_run(rest: &[u8]) -> bool
 {
     let line = line_end(rest);
     match line {
-        Found::Nowhere => false,
-        Found::At(n) => {
+        None => false,
+        Some(n) => {
             if n == rest.len() {
                 return is_run(rest);
             }
@@ -113,12 +112,12 @@ pub(crate) fn tail_of(text: &[u8]) -> Tail
 {
     let line = line_end(text);
     match line {
-        Found::Nowhere => Tail::Other,
-        Found::At(n) => {
+        None => Tail::Other,
+        Some(n) => {
             let read = way_in(&text[..n]);
             match read {
-                WayRead::Nothing => Tail::Other,
-                WayRead::Is(way) => {
+                None => Tail::Other,
+                Some(way) => {
                     if only_run(&text[n..]) {
                         return Tail::Of { way, stream: n + 4 };
                     }

@@ -1,5 +1,6 @@
 -- What becomes of a machine is determined, since more than n and at most n exclude each other, and a description of the states is one: so is the
 -- outcome, and every word of the rows. Assumes nothing.
+use Rattle.std.proofs.Common.{Result, Ok, Err}
 use Prim.Native.Nat.{ℕ, ◌+◌, ◌*◌, ◌/◌, ◌%◌, ◌≤◌, ◌<◌}
 use mathlib.Core.Path.{◌≡◌, refl, sym, ◌∙◌, ap}
 use mathlib.Core.Logic.{◌⊎◌, inl, inr}
@@ -20,7 +21,6 @@ use Rattle.mealy.proofs.Unique.{equal, same_states, not_more, described_at_most,
 use Rattle.machine.specs.Rows.{decoded, answer_at}
 use Rattle.machine.specs.Generated.{ProperWord, refusing, passing, Making, Unmade, crowded, overfull, roomless, Built}
 use Rattle.machine.specs.declared.machine.Machine.{Machine}
-use Rattle.machine.specs.declared.machine.Outcome.{Outcome}
 
 passes : (targets w : ℕ) → targets ≤ 16 → (w / 256 < targets) ⊎ (w / 256 ≡ 255) → decoded w ≡ taken (w / 256) (w % 256)
 passes targets w few (inl h) = rw (ne_eqb (w / 256) 254 (λ e. omega arith)) refl
@@ -100,9 +100,9 @@ module _ (m : Mealy Situation ℕ) (way : Way) (ups targets : ℕ) (letters : m.
   unmade_one (roomless f l d h) (roomless e n c k) = refl
 
   -- so there is one outcome with its rows
-  pub built_one : (r s : Outcome) {rows₁ rows₂ : List ℕ} → Built m way ups targets rows r rows₁ → Built m way ups targets rows s rows₂
+  pub built_one : (r s : Result Machine Refusal) {rows₁ rows₂ : List ℕ} → Built m way ups targets rows r rows₁ → Built m way ups targets rows s rows₂
       → (r ≡ s) × (rows₁ ≡ rows₂)
-  built_one (Outcome.Made x) (Outcome.Made y) b c = (ap Outcome.Made (machine_one b c), rows_one b c)
-  built_one (Outcome.Made x) (Outcome.Refused why) b c = absurd (not_both b c.0)
-  built_one (Outcome.Refused why) (Outcome.Made y) b c = absurd (not_both c b.0)
-  built_one (Outcome.Refused why) (Outcome.Refused other) b c = (ap Outcome.Refused (unmade_one b.0 c.0), b.1 ∙ sym c.1)
+  built_one (Ok x) (Ok y) b c = (ap Ok (machine_one b c), rows_one b c)
+  built_one (Ok x) (Err why) b c = absurd (not_both b c.0)
+  built_one (Err why) (Ok y) b c = absurd (not_both c b.0)
+  built_one (Err why) (Err other) b c = (ap Err (unmade_one b.0 c.0), b.1 ∙ sym c.1)

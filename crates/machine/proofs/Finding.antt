@@ -1,11 +1,11 @@
 -- How a search of the index goes down its chain, and what it has found at its end. Assumes nothing.
+use Rattle.std.proofs.Common.{Option, Some, None}
 use Prim.Native.Nat.{ℕ, ◌+◌, ◌-◌, ◌≤◌, ◌<◌}
 use mathlib.Core.Path.{◌≡◌, refl, sym, ◌∙◌}
 use mathlib.Core.Logic.{⊎_elim}
 use mathlib.Core.List.{List}
 use native.Mathlib.Omega.{arith}
 use lib.ListN.{get_or}
-use Rattle.ground.specs.declared.Found.{Found}
 use Rattle.mealy.proofs.Numbers.{split_last}
 use Rattle.machine.proofs.Links.{same_bucket}
 use Rattle.machine.specs.inner.Index.{capacity, bucket_of, bucket_at, next_at, Index, Pair, Absent, FoundAt, there, nowhere, Placed, known}
@@ -51,12 +51,12 @@ pub seek_end : {pairs links : List ℕ} {count need low : ℕ} → Seeking pairs
 seek_end x p h r = omega (arith, x.below p h r)
 
 -- what a search has found, and what it has not
-pub found_known : {pairs links : List ℕ} {count need low : ℕ} {r : Found} {p : ℕ} → FoundAt pairs count need low r → r ≡ Found.At p
+pub found_known : {pairs links : List ℕ} {count need low : ℕ} {r : Option ℕ} {p : ℕ} → FoundAt pairs count need low r → r ≡ Some p
     → Index pairs links count → Placed pairs count need low pairs links p
 found_known {r = r} {p = p} (there q f h here) e x = let one : q ≡ p = cc in known (rw one at h) (rw one at here) refl x
 found_known {r = r} {p = p} (nowhere f absent) e x = let z : ◌≡◌ {A = ℕ} 0 1 = cc in absurd (omega arith)
 
-pub found_absent : {pairs : List ℕ} {count need low : ℕ} {r : Found} → FoundAt pairs count need low r → r ≡ Found.Nowhere
+pub found_absent : {pairs : List ℕ} {count need low : ℕ} {r : Option ℕ} → FoundAt pairs count need low r → r ≡ None
     → Absent pairs count need low
 found_absent {r = r} (there q f h here) e = let z : ◌≡◌ {A = ℕ} 0 1 = cc in absurd (omega arith)
 found_absent (nowhere f absent) e = absent

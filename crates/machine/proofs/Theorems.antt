@@ -1,6 +1,7 @@
 -- The theorems about the machine of any two models and any way, as a reader wants to find them: stated on the rule's own runs, `run` and `onward`,
 -- for any rows that describe it, whether they were generated, listed or read from an image. Such rows run like the rule's own machine.
 -- A stream of letters is a stream of operations by the alphabet: 0 l, 1 L, 2 s, 3 S, 4 upwards the upstream fences. Assumes nothing.
+use Rattle.std.proofs.Common.{Result, Ok, Err}
 use Prim.Native.Nat.{ℕ, ◌≤◌, ◌<◌}
 use mathlib.Core.Path.{◌≡◌, refl, sym, ◌∙◌, ap, subst}
 use mathlib.Core.Logic.{◌↔◌}
@@ -28,7 +29,6 @@ use Rattle.machine.specs.Generated.{Unmade, crowded, overfull, roomless, named, 
 use Rattle.machine.specs.Spoken.{Letters, operations, machine_of, spoken, AnswersLikeTheRule}
 use Rattle.machine.specs.Counted.{SameSituation, SameState, NumberOf, OnStates, ManySituations, ManyStates, FirstArrival}
 use Rattle.machine.specs.declared.machine.Machine.{Machine}
-use Rattle.machine.specs.declared.machine.Outcome.{Outcome}
 use Rattle.machine.proofs.Zeros.{at_most_sixteen}
 use Rattle.machine.proofs.Determined.{too_few}
 use Rattle.machine.proofs.Spelling.{ran_as, spoken_gets, ends_spelt}
@@ -160,7 +160,7 @@ module _ (s : Shim) (ups fences : List ℕ) where
   few : length (named fences) ≤ 16
   few = at_most_sixteen fences refl
 
-  module _ (rows : List ℕ) (x : Machine) (rows' : List ℕ) (made : Generated s ups fences rows (Outcome.Made x) rows') where
+  module _ (rows : List ℕ) (x : Machine) (rows' : List ℕ) (made : Generated s ups fences rows (Ok x) rows') where
     situations_are : NumberOf x.situations way up target (SameSituation up target)
     situations_are =
         record {
@@ -180,9 +180,9 @@ module _ (s : Shim) (ups fences : List ℕ) where
       λ c. first_without _ situations_are.more situations_are.no_more c.more c.no_more,
     )
 
-  module _ (rows : List ℕ) (r : Outcome) (rows' : List ℕ) (generated : Generated s ups fences rows r rows') where
+  module _ (rows : List ℕ) (r : Result Machine Refusal) (rows' : List ℕ) (generated : Generated s ups fences rows r rows') where
     -- The refusal 8 is given exactly when more than 4,096 situations can be reached.
-    pub refused_8_exactly_when : (r ≡ Outcome.Refused Refusal.TooManySituations) ↔ ManySituations way up target
+    pub refused_8_exactly_when : (r ≡ Err Refusal.TooManySituations) ↔ ManySituations way up target
     refused_8_exactly_when = (λ e. both.0 (many r e generated), λ h. look r generated (both.1 h))
       where
         both : More ruled ◌≡◌ 4096 ↔ ManySituations way up target
@@ -191,20 +191,20 @@ module _ (s : Shim) (ups fences : List ℕ) where
         so_many : Unmade ruled rows Refusal.TooManySituations → More ruled ◌≡◌ 4096
         so_many (crowded h) = h
 
-        many : (o : Outcome) → o ≡ Outcome.Refused Refusal.TooManySituations → Generated s ups fences rows o rows' → More ruled ◌≡◌ 4096
-        many o e g = let c : Generated s ups fences rows (Outcome.Refused Refusal.TooManySituations) rows' = rw e at g in so_many c.0
+        many : (o : Result Machine Refusal) → o ≡ Err Refusal.TooManySituations → Generated s ups fences rows o rows' → More ruled ◌≡◌ 4096
+        many o e g = let c : Generated s ups fences rows (Err Refusal.TooManySituations) rows' = rw e at g in so_many c.0
 
         refusal : {why : Refusal} → Unmade ruled rows why → More ruled ◌≡◌ 4096 → why ≡ Refusal.TooManySituations
         refusal (crowded k) h = refl
         refusal (overfull f k) h = absurd (not_more _ ◌≡◌ equal 4096 f h)
         refusal (roomless f l d k) h = absurd (not_more _ ◌≡◌ equal 4096 f h)
 
-        look : (o : Outcome) → Generated s ups fences rows o rows' → More ruled ◌≡◌ 4096 → o ≡ Outcome.Refused Refusal.TooManySituations
-        look (Outcome.Made x) g h = absurd (not_more _ ◌≡◌ equal 4096 g.few_situations h)
-        look (Outcome.Refused why) g h = ap Outcome.Refused (refusal g.0 h)
+        look : (o : Result Machine Refusal) → Generated s ups fences rows o rows' → More ruled ◌≡◌ 4096 → o ≡ Err Refusal.TooManySituations
+        look (Ok x) g h = absurd (not_more _ ◌≡◌ equal 4096 g.few_situations h)
+        look (Err why) g h = ap Err (refusal g.0 h)
 
     -- The refusal 9 is given exactly when the situations are not too many and the states are more than 255.
-    pub refused_9_exactly_when : (r ≡ Outcome.Refused Refusal.TooManyStates)
+    pub refused_9_exactly_when : (r ≡ Err Refusal.TooManyStates)
         ↔ ((ManySituations way up target → ⊥) × ManyStates way up target)
     refused_9_exactly_when = (λ e. states r e generated, λ h. look r generated h.0 (many.1 h.1))
       where
@@ -217,9 +217,9 @@ module _ (s : Shim) (ups fences : List ℕ) where
         so_many : Unmade ruled rows Refusal.TooManyStates → (ManySituations way up target → ⊥) × ManyStates way up target
         so_many (overfull f h) = (λ k. not_more _ ◌≡◌ equal 4096 f (both.1 k), many.0 h)
 
-        states : (o : Outcome) → o ≡ Outcome.Refused Refusal.TooManyStates → Generated s ups fences rows o rows'
+        states : (o : Result Machine Refusal) → o ≡ Err Refusal.TooManyStates → Generated s ups fences rows o rows'
             → (ManySituations way up target → ⊥) × ManyStates way up target
-        states o e g = let c : Generated s ups fences rows (Outcome.Refused Refusal.TooManyStates) rows' = rw e at g in so_many c.0
+        states o e g = let c : Generated s ups fences rows (Err Refusal.TooManyStates) rows' = rw e at g in so_many c.0
 
         refusal : {why : Refusal} → Unmade ruled rows why → (ManySituations way up target → ⊥) → More ruled (Same ruled) 255
             → why ≡ Refusal.TooManyStates
@@ -227,7 +227,7 @@ module _ (s : Shim) (ups fences : List ℕ) where
         refusal (overfull f k) n h = refl
         refusal (roomless f l d k) n h = absurd (too_few _ d l h)
 
-        look : (o : Outcome) → Generated s ups fences rows o rows' → (ManySituations way up target → ⊥) → More ruled (Same ruled) 255
-            → o ≡ Outcome.Refused Refusal.TooManyStates
-        look (Outcome.Made x) g n h = absurd (too_few _ g.states g.few_states h)
-        look (Outcome.Refused why) g n h = ap Outcome.Refused (refusal g.0 n h)
+        look : (o : Result Machine Refusal) → Generated s ups fences rows o rows' → (ManySituations way up target → ⊥) → More ruled (Same ruled) 255
+            → o ≡ Err Refusal.TooManyStates
+        look (Ok x) g n h = absurd (too_few _ g.states g.few_states h)
+        look (Err why) g n h = ap Err (refusal g.0 n h)

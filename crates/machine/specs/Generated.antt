@@ -1,6 +1,6 @@
 -- What generating gives. 01, "The machine", and of its table of refusals 8, "the reachable situations exceed 4,096", and 9, "the states exceed 255",
 -- in this order, with 7, "what must be written exceeds the buffer", last.
-use Rattle.std.specs.Prelude.{ℕ, ◌+◌, ◌*◌, ◌/◌, ◌%◌, ◌≤◌, ◌<◌, ◌≡◌, ◌⊎◌, List, length, take}
+use Rattle.std.specs.Prelude.{ℕ, ◌+◌, ◌*◌, ◌/◌, ◌%◌, ◌≤◌, ◌<◌, ◌≡◌, ◌⊎◌, List, length, take, Result, Ok, Err}
 use Rattle.ground.specs.Bytes.{at}
 use Rattle.answers.specs.declared.Refusal.{Refusal}
 use Rattle.operations.specs.Alphabet.{letters_with, stride}
@@ -13,7 +13,6 @@ use Rattle.mealy.specs.Arrivals.{More, AtMost, Exactly, Described}
 use Rattle.machine.specs.Rows.{answer_at}
 use Rattle.machine.specs.Shim.{shim_of}
 use Rattle.machine.specs.declared.machine.Machine.{Machine}
-use Rattle.machine.specs.declared.machine.Outcome.{Outcome}
 
 -- the word of a refusal; and one of an output, which is a target fence's number or none, and of a next state
 pub data ProperWord (targets states w : ℕ) : Type 0 where
@@ -43,15 +42,15 @@ pub data Unmade (m : Mealy Situation ℕ) (rows : List ℕ) : Refusal → Type 0
       → Unmade m rows Refusal.BufferTooSmall
 
 -- what becomes of the rows, by the outcome; a refusal writes nothing
-abbrev pub Built : Mealy Situation ℕ → Way → ℕ → ℕ → List ℕ → Outcome → List ℕ → Type 0
-Built m way ups targets rows (Outcome.Made x) rows' = Making m way ups targets rows x rows'
-Built m way ups targets rows (Outcome.Refused why) rows' = Unmade m rows why × (rows' ≡ rows)
+abbrev pub Built : Mealy Situation ℕ → Way → ℕ → ℕ → List ℕ → Result Machine Refusal → List ℕ → Type 0
+Built m way ups targets rows (Ok x) rows' = Making m way ups targets rows x rows'
+Built m way ups targets rows (Err why) rows' = Unmade m rows why × (rows' ≡ rows)
 
 -- an operation names sixteen fences at most: the first sixteen count
 abbrev pub named : List ℕ → List ℕ
 named fences = take 16 fences
 
 -- what generating makes of a shim with these fences' packed tables on its two sides
-abbrev pub Generated : Shim → List ℕ → List ℕ → List ℕ → Outcome → List ℕ → Type 0
+abbrev pub Generated : Shim → List ℕ → List ℕ → List ℕ → Result Machine Refusal → List ℕ → Type 0
 Generated s ups fences rows r rows' =
     Built (shim_of s (named ups) (named fences)) s.way (length (named ups)) (length (named fences)) rows r rows'

@@ -4,7 +4,6 @@
 ghost use Rattle.std.specs.Prelude.{◌+◌, ◌*◌, ◌<◌, ◌≡◌, length};
 ghost use Rattle.machine.specs.inner.Index.{bucket_of, capacity, Index, Holds, Absent, FoundAt, Pushed, Placed};
 
-use ground::Found;
 
 // A link as an index: one more than a place, or 0 where the chain ends.
 fn wide(x: u16) -> usize
@@ -33,7 +32,7 @@ fn holds(pairs: &[u64], place: usize, need: u64, low: u64) -> bool
     true
 }
 
-fn find<'a>(pairs: &'a [u64], links: &'a [u16], count: usize, need: u64, low: u64) -> Found
+fn find<'a>(pairs: &'a [u64], links: &'a [u16], count: usize, need: u64, low: u64) -> Option<usize>
     requires { Index pairs.now links.now count }
     ensures { FoundAt pairs.now count need low result }
 {
@@ -41,11 +40,11 @@ fn find<'a>(pairs: &'a [u64], links: &'a [u16], count: usize, need: u64, low: u6
     while cursor != 0 {
         let place = cursor - 1;
         if holds(pairs, place, need, low) {
-            return Found::At(place);
+            return Some(place);
         }
         cursor = wide(links[4096 + place]);
     }
-    Found::Nowhere
+    None
 }
 
 // Puts a pair at the next place.
@@ -88,7 +87,7 @@ pub(crate) fn place(
 {
     let found = find(pairs, links, count, need, low);
     match found {
-        Found::At(p) => p,
-        Found::Nowhere => add(pairs, links, count, need, low),
+        Some(p) => p,
+        None => add(pairs, links, count, need, low),
     }
 }

@@ -43,11 +43,11 @@ fn write<'a>(
     ensures { Makes shim ups.now fences.now rows.old result rows.new }
 {
     if rows.len() < states * STRIDE {
-        return Outcome::Refused(Refusal::BufferTooSmall);
+        return Err(Refusal::BufferTooSmall);
     }
     let way = shim.way;
     rows::write_rows(table, classes, rows, ACCESSES + ups.len(), count, states);
-    Outcome::Made(Machine {
+    Ok(Machine {
         way: way::way_number(way),
         situations: count,
         states,
@@ -71,7 +71,7 @@ fn sort<'a>(
     let mut classes = [0u8; 4096];
     let states = refine::refine(table, &mut classes, count, ACCESSES + ups.len());
     if 255 < states {
-        return Outcome::Refused(Refusal::TooManyStates);
+        return Err(Refusal::TooManyStates);
     }
     write(shim, ups, fences, table, &classes, count, states, rows)
 }
@@ -89,7 +89,7 @@ fn search<'a>(
 {
     let count = explore::explore(shim, ups, fences, table);
     if 4096 < count {
-        return Outcome::Refused(Refusal::TooManySituations);
+        return Err(Refusal::TooManySituations);
     }
     sort(shim, ups, fences, table, count, rows)
 }

@@ -32,12 +32,12 @@ fn generate(way: u64, upstream: Model, target: Model, rows: &mut [u16]) -> Outco
 
 fn print_outcome(outcome: Outcome) {
     match outcome {
-        Outcome::Made(x) => {
+        Ok(x) => {
             io::print_decimal(1, x.situations as u64);
             io::write_all(1, b"/");
             io::print_decimal(1, x.states as u64);
         }
-        Outcome::Refused(why) => {
+        Err(why) => {
             io::write_all(1, b"refused ");
             io::print_decimal(1, why.number());
         }
@@ -150,7 +150,7 @@ fn tso_on_arm(way: u64) {
     let mut rows = [0u16; WORDS];
     let outcome = generate(way, from, onto, &mut rows);
     match outcome {
-        Outcome::Made(x) => {
+        Ok(x) => {
             print_states(&rows, x.states, letters_of(x));
         }
         _ => {
@@ -167,8 +167,8 @@ fn try_pair(fields: &[u8]) {
     let other = two.verdict;
     io::write_all(1, field(fields, 0));
     match verdict {
-        Verdict::Accepted => match other {
-            Verdict::Accepted => {
+        Ok(()) => match other {
+            Ok(()) => {
                 let from = one.model;
                 let onto = two.model;
                 io::write_all(1, b", ");
@@ -177,11 +177,11 @@ fn try_pair(fields: &[u8]) {
                 try_models(1, from, onto);
                 io::write_all(1, b"\n");
             }
-            Verdict::Refused(_) => {
+            Err(_) => {
                 io::write_all(1, b": the target text is refused\n");
             }
         },
-        Verdict::Refused(_) => {
+        Err(_) => {
             io::write_all(1, b": the upstream text is refused\n");
         }
     }

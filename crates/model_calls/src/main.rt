@@ -51,10 +51,10 @@ fn try_built_ins() {
 
 fn print_compared(compared: Compared) {
     match compared {
-        Compared::Is(comparison) => {
+        Ok(comparison) => {
             io::print_decimal(1, comparison.number());
         }
-        Compared::Refused(why) => {
+        Err(why) => {
             io::write_all(1, b"refused ");
             io::print_decimal(1, why.number());
             io::write_all(1, b" at ");

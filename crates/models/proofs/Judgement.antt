@@ -1,5 +1,6 @@
 -- The reader refuses a text that is not of the form at its longest beginning that begins some text of the form: the parts of a text are put
 -- together by the laws of texts, and each kind of part has been proved once. Assumes nothing.
+use Rattle.std.proofs.Common.{Ok, Err, Result}
 use Prim.Native.Nat.{ℕ, zero, suc, ◌+◌, ◌≤◌}
 use mathlib.Core.Path.{◌≡◌, refl, sym, ap, ◌∙◌, subst}
 use mathlib.Core.Bool.{Bool, cond}
@@ -12,7 +13,7 @@ use lib.Dec.{T, eqb, eqb→eq}
 use lib.ListN.{length, take, drop, get_or, length-drop}
 use lib.Seq.{length-take-le, take-length, get_or-drop}
 use Rattle.ground.specs.Bytes.{name_byte, bytes}
-use Rattle.texts.specs.declared.Step.{Step}
+use Rattle.texts.specs.Step.{Step}
 use Rattle.texts.specs.Language.{Language, Longest, Some, Reads, found, stuck, shift, on_step, Judged, Judges}
 use Rattle.texts.specs.Pattern.{follow_at}
 use Rattle.texts.specs.NamePart.{Ended, name_at}
@@ -20,8 +21,7 @@ use Rattle.texts.proofs.Language.{length_begun, some_seq, judged_first, judged_s
 use Rattle.texts.proofs.Pattern.{length-follows, sample, sample_follows, reads_follow, some_follows, judges_follow}
 use Rattle.texts.proofs.NamePart.{some_name, judges_name}
 use Rattle.models.specs.declared.scan.Line.{Line}
-use Rattle.models.specs.declared.scan.LineRead.{LineRead}
-use Rattle.models.specs.declared.model.Reading.{Reading}
+use Rattle.models.specs.Told.{Reading}
 use Rattle.models.specs.declared.reader.Progress.{Progress}
 use Rattle.models.specs.inner.Lines.{table_pattern, then_line, line_end, ppo_at, head_from, fence_line_from}
 use Rattle.models.specs.inner.Progress.{formless, on_line, finished}
@@ -29,12 +29,12 @@ use Rattle.models.specs.inner.Parts.{TablePart, TableThen, FenceName, FenceThen,
 use Rattle.models.specs.Reading.{head_at, fence_at, fence_from, ended, lines_from, after_head}
 
 -- a line that the reader goes on with is followed step by step
-on_line_lem : (r : Step) (f : ℕ → LineRead) (g : Line → Reading) → on_line (then_line r f) g ≡ on_step formless r (λ n. on_line (f n) g)
-on_line_lem (Step.Next n) f g = refl
-on_line_lem (Step.Stuck k) f g = refl
+on_line_lem : (r : Step) (f : ℕ → Result Line ℕ) (g : Line → Reading) → on_line (then_line r f) g ≡ on_step formless r (λ n. on_line (f n) g)
+on_line_lem (Ok n) f g = refl
+on_line_lem (Err k) f g = refl
 
 -- so what is shown of the steps holds of the line
-by_steps : (L : Language) (s : List ℕ) (at : ℕ) (r : Step) (f : ℕ → LineRead) (g : Line → Reading)
+by_steps : (L : Language) (s : List ℕ) (at : ℕ) (r : Step) (f : ℕ → Result Line ℕ) (g : Line → Reading)
     → Judged formless L s at (on_step formless r (λ n. on_line (f n) g)) → Judged formless L s at (on_line (then_line r f) g)
 by_steps L s at r f g = subst (λ (x : Reading). Judged formless L s at x) (sym (on_line_lem r f g))
 
@@ -100,7 +100,7 @@ module _ (t : List ℕ) (M : Language) (some : Some M) (g : Line → Reading)
 
     judges_table : (name : ℕ) → Judges formless (TableThen M) t (λ table. on_line (line_end t name table) g)
     judges_table name table la =
-        by_steps (TableThen M) (drop table t) table (follow_at table_pattern t table) (λ next. LineRead.Read (line table next)) g
+        by_steps (TableThen M) (drop table t) table (follow_at table_pattern t table) (λ next. Ok (line table next)) g
         (judges_follow formless t M some table_pattern (λ table next. g (line table next)) (λ a. rest name a) table la)
       where
         line : ℕ → ℕ → Line

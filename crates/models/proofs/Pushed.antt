@@ -13,7 +13,7 @@ use lib.ListN.{length, take, get_or, set, replicate, length-append, length-map}
 use lib.Seq.{take-suc, take_at, length-take-le, set-append_seam, append_snoc, get_or-take, take-length}
 use Rattle.answers.specs.declared.Refusal.{Refusal}
 use Rattle.models.specs.declared.model.Model.{Model}
-use Rattle.models.specs.declared.model.Reading.{Reading}
+use Rattle.models.specs.Told.{Reading}
 use Rattle.models.specs.declared.reader.Progress.{Progress}
 use Rattle.models.specs.Model.{Fence, Description, FenceFormed, Formed}
 use Rattle.texts.specs.NamePart.{Each, NameFormed}

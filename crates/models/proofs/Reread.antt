@@ -1,4 +1,5 @@
 -- Reading the text of a model, line by line: the reader goes through the model's own fences. Assumes nothing.
+use Rattle.std.proofs.Common.{Result, Ok}
 use Prim.Native.Nat.{ℕ, zero, suc, ◌+◌, ◌-◌, ◌≤◌, ◌<◌}
 use mathlib.Core.Path.{◌≡◌, refl, sym, ap, ap₂, ◌∙◌}
 use mathlib.Core.Bool.{Bool, cond}
@@ -12,12 +13,12 @@ use lib.Seq.{drop-drop, drop_at, take_at, drop-cons, get_or-drop, take-suc, drop
 use Rattle.ground.specs.Bytes.{name_byte, bytes}
 use Rattle.tables.specs.declared.table.Table.{Table}
 use Rattle.tables.specs.Table.{Clean}
-use Rattle.texts.specs.declared.Step.{Step}
+use Rattle.texts.specs.Step.{Step}
 use Rattle.texts.specs.Language.{on_step}
 use Rattle.texts.specs.NamePart.{NameFormed}
 use Rattle.texts.proofs.Pattern.{followed, own_word}
 use Rattle.texts.proofs.NamePart.{each_at, run_whole, name_found}
-use Rattle.models.specs.declared.scan.LineRead.{LineRead}
+use Rattle.models.specs.declared.scan.Line.{Line}
 use Rattle.models.specs.declared.model.Name.{Name}
 use Rattle.models.specs.declared.reader.Progress.{Progress}
 use Rattle.models.specs.Model.{Fence, Description, FenceFormed, Formed}
@@ -70,14 +71,14 @@ module _ (t : List ℕ) (at : ℕ) (f : Fence) (tail : List ℕ) (h : FenceForme
   at_table : drop B t ≡ table_part f.table ++ tail
   at_table = past t (f.name ++ (32 ∷ [])) _ A (length f.name + 1) at_name (length-append f.name (32 ∷ []))
 
-  fence_read : fence_at t at ≡ LineRead.Read (record { name = A; table = B; next = C })
+  fence_read : fence_at t at ≡ Ok (record { name = A; table = B; next = C })
   unfolding fence_at
   fence_read =
       ap (λ (s : Step). then_line s (fence_line_from t))
       (followed (bytes "fence ") t (bytes "fence ") ((f.name ++ (32 ∷ [])) ++ (table_part f.table ++ tail)) at is (own_word (bytes "fence ") tt))
       ∙ ap (λ (s : Step). then_line s (λ table. line_end t A table))
       (name_found t f.name (table_part f.table ++ tail) 32 A at_name h.name space)
-      ∙ ap (λ (s : Step). then_line s (λ next. LineRead.Read (record { name = A; table = B; next = next })))
+      ∙ ap (λ (s : Step). then_line s (λ next. Ok (record { name = A; table = B; next = next })))
       (followed table_pattern t (table_part f.table) tail B at_table (part_follows f.table))
 
   fence_line : (n : ℕ) (p : Progress) → lines_from (suc n) t p at ≡ lines_from n t (with_fence p (filled f.name) A f.table) C
@@ -86,7 +87,7 @@ module _ (t : List ℕ) (at : ℕ) (f : Fence) (tail : List ℕ) (h : FenceForme
       let one : suc n - 1 ≡ n = omega arith in
       lines_fence t p at (suc n) (omega arith) begins
       ∙ ap (λ (k : ℕ). on_line (fence_at t at) (λ line. lines_from k t (fence_from t p line) line.next)) one
-      ∙ ap (λ (r : LineRead). on_line r (λ line. lines_from n t (fence_from t p line) line.next)) fence_read
+      ∙ ap (λ (r : Result Line ℕ). on_line r (λ line. lines_from n t (fence_from t p line) line.next)) fence_read
       ∙ ap₂ (λ (x : Name) (y : Table). lines_from n t (with_fence p x A y) C)
       (name_there t f.name (table_part f.table ++ tail) 32 A at_name h.name space)
       (table_there t tail f.table B at_table h.table)
@@ -115,7 +116,7 @@ module _ (t : List ℕ) (n : List ℕ) (x : Table) (tail : List ℕ) (named-well
   at_ppo_table : drop (N + 4) t ≡ table_part x ++ tail
   at_ppo_table = past t (bytes "ppo ") _ N 4 at_ppo refl
 
-  head_read : head_at t ≡ LineRead.Read (record { name = 6; table = N + 4; next = N + 4 + 20 })
+  head_read : head_at t ≡ Ok (record { name = 6; table = N + 4; next = N + 4 + 20 })
   unfolding head_at
   head_read =
       ap (λ (s : Step). then_line s (head_from t))
@@ -124,12 +125,12 @@ module _ (t : List ℕ) (n : List ℕ) (x : Table) (tail : List ℕ) (named-well
       (name_found t n (bytes "ppo " ++ (table_part x ++ tail)) 10 6 at_head_name named-well feed)
       ∙ ap (λ (s : Step). then_line s (λ table. line_end t 6 table))
       (followed (bytes "ppo ") t (bytes "ppo ") (table_part x ++ tail) N at_ppo (own_word (bytes "ppo ") tt))
-      ∙ ap (λ (s : Step). then_line s (λ next. LineRead.Read (record { name = 6; table = N + 4; next = next })))
+      ∙ ap (λ (s : Step). then_line s (λ next. Ok (record { name = 6; table = N + 4; next = next })))
       (followed table_pattern t (table_part x) tail (N + 4) at_ppo_table (part_follows x))
 
   head_lines : on_line (head_at t) (after_head t) ≡ lines_from 16 t (started (filled n) x) (N + 4 + 20)
   head_lines =
-      ap (λ (r : LineRead). on_line r (after_head t)) head_read
+      ap (λ (r : Result Line ℕ). on_line r (after_head t)) head_read
       ∙ ap₂ (λ (y : Name) (z : Table). lines_from 16 t (started y z) (N + 4 + 20))
       (name_there t n (bytes "ppo " ++ (table_part x ++ tail)) 10 6 at_head_name named-well feed)
       (table_there t tail x (N + 4) at_ppo_table clean)

@@ -1,5 +1,6 @@
 -- The lines of a model's text, one after another: where a name ends of which a line was read, and what is left to be read after a line.
 -- Assumes nothing.
+use Rattle.std.proofs.Common.{Ok, Err, Result}
 use Prim.Native.Nat.{ℕ, zero, suc, ◌+◌, ◌-◌, ◌≤◌, ◌<◌}
 use mathlib.Core.Path.{◌≡◌, refl, sym, ap, ap₂, subst, ◌∙◌}
 use mathlib.Core.Bool.{Bool, cond}
@@ -11,15 +12,14 @@ use Rattle.ground.specs.Bytes.{bytes}
 use Rattle.ground.proofs.Truths.{differ}
 use Rattle.answers.specs.declared.Refusal.{Refusal}
 use Rattle.tables.specs.declared.table.Table.{Table}
-use Rattle.texts.specs.declared.Step.{Step}
+use Rattle.texts.specs.Step.{Step}
 use Rattle.texts.specs.Pattern.{follow_at}
 use Rattle.texts.specs.NamePart.{name_at}
 use Rattle.texts.proofs.Pattern.{pattern_past}
 use Rattle.texts.proofs.Steps.{name_past}
 use Rattle.models.specs.declared.scan.Line.{Line}
-use Rattle.models.specs.declared.scan.LineRead.{LineRead}
 use Rattle.models.specs.declared.model.Name.{Name}
-use Rattle.models.specs.declared.model.Reading.{Reading}
+use Rattle.models.specs.Told.{Reading}
 use Rattle.models.specs.declared.reader.Progress.{Progress}
 use Rattle.models.specs.Told.{refusing}
 use Rattle.models.specs.inner.Lines.{table_pattern, then_line, line_end, ppo_at, head_from, fence_line_from, NameEnds}
@@ -27,30 +27,30 @@ use Rattle.models.specs.inner.Progress.{formless, on_line, repeat_of, with_fence
 use Rattle.models.specs.Reading.{head_at, fence_at, name_in, table_in, fence_from, ended, lines_from, after_head, reading}
 
 -- what the steps of a line have answered decides how the reader goes on
-pub line_stuck : {r st : LineRead} {at : ℕ} {x : Reading} (more : Line → Reading) → r ≡ st → r ≡ LineRead.Stuck at → x ≡ formless at
+pub line_stuck : {r st : Result Line ℕ} {at : ℕ} {x : Reading} (more : Line → Reading) → r ≡ st → r ≡ Err at → x ≡ formless at
     → x ≡ on_line st more
-line_stuck more e f is = is ∙ ap (λ (s : LineRead). on_line s more) (sym f ∙ e)
+line_stuck more e f is = is ∙ ap (λ (s : Result Line ℕ). on_line s more) (sym f ∙ e)
 
-pub line_next : {r st : LineRead} {l : Line} {x : Reading} (more : Line → Reading) → r ≡ st → r ≡ LineRead.Read l → x ≡ more l → x ≡ on_line st more
-line_next more e f is = is ∙ ap (λ (s : LineRead). on_line s more) (sym f ∙ e)
+pub line_next : {r st : Result Line ℕ} {l : Line} {x : Reading} (more : Line → Reading) → r ≡ st → r ≡ Ok l → x ≡ more l → x ≡ on_line st more
+line_next more e f is = is ∙ ap (λ (s : Result Line ℕ). on_line s more) (sym f ∙ e)
 
 -- a line that was read, step by step
-step_read : (st : Step) (more : ℕ → LineRead) (line : Line) → then_line st more ≡ LineRead.Read line
-    → (n : ℕ) × (st ≡ Step.Next n) × (more n ≡ LineRead.Read line)
-step_read (Step.Next n) more line h = (n, refl, h)
-step_read (Step.Stuck k) more line h = differ (cc)
+step_read : (st : Step) (more : ℕ → Result Line ℕ) (line : Line) → then_line st more ≡ Ok line
+    → (n : ℕ) × (st ≡ Ok n) × (more n ≡ Ok line)
+step_read (Ok n) more line h = (n, refl, h)
+step_read (Err k) more line h = differ (cc)
 
 module _ (t : List ℕ) (line : Line) where
-  line_is : (name table : ℕ) → line_end t name table ≡ LineRead.Read line
+  line_is : (name table : ℕ) → line_end t name table ≡ Ok line
       → (next : ℕ) × (record { name = name; table = table; next = next } ≡ line)
   line_is name table h =
-      let a = step_read (follow_at table_pattern t table) (λ next. LineRead.Read (record { name = name; table = table; next = next })) line h in
+      let a = step_read (follow_at table_pattern t table) (λ next. Ok (record { name = name; table = table; next = next })) line h in
       (a.0, taken a.2)
     where
-      taken : {l : Line} → LineRead.Read l ≡ LineRead.Read line → l ≡ line
+      taken : {l : Line} → Path (Result Line ℕ) (Ok l) (Ok line) → l ≡ line
       taken e = cc
 
-  pub fence_name : (at : ℕ) → fence_at t at ≡ LineRead.Read line → NameEnds t 1 line
+  pub fence_name : (at : ℕ) → fence_at t at ≡ Ok line → NameEnds t 1 line
   unfolding fence_at
   fence_name at h =
       let a = step_read (follow_at (bytes "fence ") t at) (fence_line_from t) line h in
@@ -60,7 +60,7 @@ module _ (t : List ℕ) (line : Line) where
       record { above = omega (arith, past.0); run = omega (arith, past.0); within = omega (arith, past.1) } in
       subst (NameEnds t 1) (line_is a.0 b.0 b.2).1 ends
 
-  pub head_name : head_at t ≡ LineRead.Read line → NameEnds t 5 line
+  pub head_name : head_at t ≡ Ok line → NameEnds t 5 line
   unfolding head_at
   head_name h =
       let a = step_read (follow_at (bytes "model ") t 0) (head_from t) line h in

@@ -10,7 +10,7 @@ use lib.ListN.{length}
 use Rattle.answers.specs.declared.Refusal.{Refusal}
 use Rattle.texts.specs.Language.{Longest, Judged}
 use Rattle.texts.proofs.Language.{longest_one, judged_iff}
-use Rattle.models.specs.declared.model.Reading.{Reading}
+use Rattle.models.specs.Told.{Reading}
 use Rattle.models.specs.Model.{Description, Formed}
 use Rattle.models.specs.Text.{text_of}
 use Rattle.models.specs.Form.{Form}

@@ -1,6 +1,6 @@
 -- What the reader answers, worked out from the left as the reader does. That this is what `Told` says, and nothing else is, is proved in
 -- proofs/Words.
-use Rattle.std.specs.Prelude.{ℕ, zero, suc, ◌+◌, ◌*◌, cond, List, eqb, ltb, length, get_or, take, drop}
+use Rattle.std.specs.Prelude.{ℕ, zero, suc, ◌+◌, ◌*◌, cond, List, eqb, ltb, length, get_or, take, drop, Result}
 use Rattle.ground.specs.Bytes.{bytes}
 use Rattle.answers.specs.declared.Refusal.{Refusal}
 use Rattle.tables.specs.declared.table.Table.{Table}
@@ -12,19 +12,18 @@ use Rattle.texts.specs.Language.{on_step}
 use Rattle.texts.specs.Pattern.{follow_at}
 use Rattle.texts.specs.NamePart.{name_run}
 use Rattle.models.specs.declared.scan.Line.{Line}
-use Rattle.models.specs.declared.scan.LineRead.{LineRead}
 use Rattle.models.specs.declared.model.Name.{Name}
-use Rattle.models.specs.declared.model.Reading.{Reading}
+use Rattle.models.specs.Told.{Reading}
 use Rattle.models.specs.declared.reader.Progress.{Progress}
 use Rattle.models.specs.Told.{filled, refusing}
 use Rattle.models.specs.inner.Lines.{then_line, head_from, fence_line_from}
 use Rattle.models.specs.inner.Progress.{formless, on_line, started, with_fence, finished}
 
 -- the two lines above the fences, which count as one, and a fence's line
-unfoldable pub head_at : List ℕ → LineRead
+unfoldable pub head_at : List ℕ → Result Line ℕ
 head_at t = then_line (follow_at (bytes "model ") t 0) λ name. head_from t name
 
-unfoldable pub fence_at : List ℕ → ℕ → LineRead
+unfoldable pub fence_at : List ℕ → ℕ → Result Line ℕ
 fence_at t at = then_line (follow_at (bytes "fence ") t at) λ name. fence_line_from t name
 
 -- the name and the table at the front of what is left of a text

@@ -1,14 +1,12 @@
 -- Document 01, "Numbers and refusals", for a model's text: refusal 1 "a text .. is over its limit" (1,024 bytes), 2 "a text is not of the
 -- form", 3 "a fence name repeats", at the "first byte of the earliest fence name equal to one above it"; "upstream text (1, 2, 3)" is their
 -- order. `Told` is what a reader must believe: these words, of which each text meets one (proofs/Unique).
-use Rattle.std.specs.Prelude.{ℕ, ◌+◌, ◌-◌, ◌≤◌, ◌<◌, ◌≡◌, List, [], ◌++◌, map, length, get_or, take, replicate}
+use Rattle.std.specs.Prelude.{ℕ, ◌+◌, ◌-◌, ◌≤◌, ◌<◌, ◌≡◌, List, [], ◌++◌, map, length, get_or, take, replicate, Result, Ok, Err}
 use Rattle.answers.specs.declared.Refusal.{Refusal}
-use Rattle.answers.specs.declared.Verdict.{Verdict}
 use Rattle.tables.specs.declared.table.Table.{Table}
 use Rattle.texts.specs.Language.{Longest}
 use Rattle.models.specs.declared.model.Name.{Name}
 use Rattle.models.specs.declared.model.Model.{Model}
-use Rattle.models.specs.declared.model.Reading.{Reading}
 use Rattle.models.specs.Model.{Fence, Description, Formed}
 use Rattle.models.specs.Text.{head_text, fences_text, text_of}
 use Rattle.models.specs.Form.{Form}
@@ -35,18 +33,19 @@ held d = record {
   names = padded (filled []) (map held_name d.fences);
 }
 
--- a model without fences, and one that holds nothing at all
+-- a model without fences
 abbrev pub bare : Name → Table → Model
 bare name ppo = record { ppo = ppo; fences = 0; tables = replicate 16 0; name = name; names = replicate 16 (filled []) }
 
-abbrev pub nothing : Model
-nothing = bare (filled []) (record { packed = 0 })
+-- what reading a text gives
+abbrev pub Reading : Type 0
+Reading = Result Model Refusal
 
 abbrev pub accepting : Model → Reading
-accepting m = record { verdict = Verdict.Accepted; model = m }
+accepting m = Ok m
 
 abbrev pub refusing : Refusal → Reading
-refusing why = record { verdict = Verdict.Refused why; model = nothing }
+refusing why = Err why
 
 -- the fence k, where its line begins in the text, and where its name stands there: behind the word `fence `
 abbrev pub no_fence : Fence

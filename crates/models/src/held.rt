@@ -1,9 +1,8 @@
-// How a model is held: the makers of names, of models without fences and of refused readings.
+// How a model is held: the makers of names and of models without fences.
 ghost use Rattle.std.specs.Prelude.{◌≡◌, take};
-ghost use Rattle.models.specs.Told.{filled, bare, refusing};
+ghost use Rattle.models.specs.Told.{filled, bare};
 
-use crate::model::{Model, Name, Reading};
-use answers::{Refusal, Verdict};
+use crate::model::{Model, Name};
 use tables::table::Table;
 
 // The first bytes of a text as a name: at most sixteen.
@@ -33,15 +32,5 @@ pub fn bare_model(name: Name, ppo: Table) -> Model
         tables: [0; 16],
         name,
         names: [zeros; 16],
-    }
-}
-
-pub fn refuse(why: Refusal) -> Reading
-    ensures { result ≡ refusing why }
-{
-    let model = bare_model(Name { bytes: [0; 16] }, Table::NONE);
-    Reading {
-        verdict: Verdict::Refused(why),
-        model,
     }
 }

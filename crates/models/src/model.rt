@@ -1,5 +1,5 @@
 // A model in memory, by value.
-use answers::Verdict;
+use answers::Refusal;
 use tables::table::Table;
 
 // A name of 1 to 16 bytes, filled up with zeros.
@@ -18,9 +18,5 @@ pub struct Model {
     pub names: [Name; 16],
 }
 
-// An enum may hold no array, so the model stands beside the verdict. Where the text is refused it holds nothing.
-#[derive(Clone, Copy)]
-pub struct Reading {
-    pub verdict: Verdict,
-    pub model: Model,
-}
+// What reading a text gives.
+pub type Reading = Result<Model, Refusal>;

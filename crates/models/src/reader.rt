@@ -7,12 +7,10 @@ ghost use Rattle.models.specs.inner.Progress.{among, repeat_place, finished};
 ghost use Rattle.models.specs.Reading.{name_in, table_in, ended, lines_from, reading};
 
 use crate::model::{Model, Name, Reading};
-use crate::scan::{Line, LineRead};
 use crate::{held, scan};
-use answers::{Refusal, Verdict};
+use answers::Refusal;
 use tables::strength::Strength;
 use tables::table::Table;
-use texts::Step;
 
 // A model in the making, and the place of the first fence name that stood above already (0 while there is none).
 #[derive(Drop)]
@@ -88,13 +86,9 @@ fn finish(p: Progress) -> Reading
 {
     let at = p.repeat;
     if at == 0 {
-        let model = p.model;
-        return Reading {
-            verdict: Verdict::Accepted,
-            model,
-        };
+        return Ok(p.model);
     }
-    held::refuse(Refusal::FenceNameRepeats(at))
+    Err(Refusal::FenceNameRepeats(at))
 }
 
 // The place of the first name that stood above already: one was found, or it is the place of this name, or there is none.
@@ -111,18 +105,15 @@ fn repeat_place(found: usize, name: Name, names: [Name; 16], count: usize, at: u
     0
 }
 
+#[tactic(auto, unfolding(crate::specs::Reading::ended))]
 fn end(text: &[u8], p: Progress, at: usize) -> Reading
     ensures { result ≡ ended text.now p at }
 {
-    match texts::follow(text, at, b"end\n") {
-        Step::Stuck(at) => held::refuse(Refusal::NotOfTheForm(at)),
-        Step::Next(past) => {
-            if past == text.len() {
-                return finish(p);
-            }
-            held::refuse(Refusal::NotOfTheForm(past))
-        }
+    let past = texts::follow(text, at, b"end\n").map_err(Refusal::NotOfTheForm)?;
+    if past == text.len() {
+        return finish(p);
     }
+    Err(Refusal::NotOfTheForm(past))
 }
 
 // The fences' lines and the last line. The model is filled in place: as a value that goes through functions it would be copied for each fence.
@@ -138,23 +129,17 @@ fn lines(text: &[u8], start: Progress, at: usize) -> Reading
         if ground::byte_at(text, here) != b'f' {
             return end(text, Progress { model, repeat }, here);
         }
-        match scan::fence_line(text, here) {
-            LineRead::Stuck(at) => {
-                return held::refuse(Refusal::NotOfTheForm(at));
-            }
-            LineRead::Read(line) => {
-                // A blank stands between the two.
-                let name = name_in(text, line.name, line.table - 1);
-                let table = table_in(rest(text, line.table));
-                let k = model.fences;
-                repeat = repeat_place(repeat, name, model.names, k, line.name);
-                model.tables[k] = table.packed;
-                model.names[k] = name;
-                model.fences = k + 1;
-                here = line.next;
-                left -= 1;
-            }
-        }
+        let line = scan::fence_line(text, here).map_err(Refusal::NotOfTheForm)?;
+        // A blank stands between the two.
+        let name = name_in(text, line.name, line.table - 1);
+        let table = table_in(rest(text, line.table));
+        let k = model.fences;
+        repeat = repeat_place(repeat, name, model.names, k, line.name);
+        model.tables[k] = table.packed;
+        model.names[k] = name;
+        model.fences = k + 1;
+        here = line.next;
+        left -= 1;
     }
     end(text, Progress { model, repeat }, here)
 }
@@ -166,16 +151,12 @@ pub fn read(text: &[u8]) -> Reading
     ensures words { Told text.now result }
 {
     if 1024 < text.len() {
-        return held::refuse(Refusal::OverLimit);
+        return Err(Refusal::OverLimit);
     }
-    match scan::head_line(text) {
-        LineRead::Stuck(at) => held::refuse(Refusal::NotOfTheForm(at)),
-        LineRead::Read(line) => {
-            // A line feed and `ppo ` stand between the two.
-            let name = name_in(text, line.name, line.table - 5);
-            let ppo = table_in(rest(text, line.table));
-            let model = held::bare_model(name, ppo);
-            lines(text, Progress { model, repeat: 0 }, line.next)
-        }
-    }
+    let line = scan::head_line(text).map_err(Refusal::NotOfTheForm)?;
+    // A line feed and `ppo ` stand between the two.
+    let name = name_in(text, line.name, line.table - 5);
+    let ppo = table_in(rest(text, line.table));
+    let model = held::bare_model(name, ppo);
+    lines(text, Progress { model, repeat: 0 }, line.next)
 }

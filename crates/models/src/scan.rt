@@ -2,7 +2,7 @@
 // text departs from it.
 ghost use Rattle.std.specs.Prelude.{◌≡◌};
 ghost use Rattle.texts.specs.Pattern.{follow_at};
-ghost use Rattle.models.specs.inner.Lines.{table_pattern, line_end, ppo_at};
+ghost use Rattle.models.specs.inner.Lines.{table_pattern, line_end};
 ghost use Rattle.models.specs.Reading.{head_at, fence_at};
 
 use texts::Step;
@@ -15,12 +15,6 @@ pub(crate) struct Line {
     pub next: usize,
 }
 
-#[derive(Drop)]
-pub(crate) enum LineRead {
-    Read(Line),
-    Stuck(usize),
-}
-
 // The table's part of a line, with the line feed.
 fn table_part(text: &[u8], at: usize) -> Step
     ensures { result ≡ follow_at table_pattern text.now at }
@@ -29,48 +23,28 @@ fn table_part(text: &[u8], at: usize) -> Step
 }
 
 // The two lines above the fences.
-pub(crate) fn head_line(text: &[u8]) -> LineRead
+#[tactic(auto, unfolding(crate::specs::Reading::head_at))]
+pub(crate) fn head_line(text: &[u8]) -> Result<Line, usize>
     ensures { result ≡ head_at text.now }
 {
-    match texts::follow(text, 0, b"model ") {
-        Step::Stuck(at) => LineRead::Stuck(at),
-        Step::Next(name_at) => match texts::name(text, name_at, b'\n') {
-            Step::Stuck(at) => LineRead::Stuck(at),
-            Step::Next(past) => ppo_line(text, name_at, past),
-        },
-    }
+    let name = texts::follow(text, 0, b"model ")?;
+    let past = texts::name(text, name, b'\n')?;
+    let table = texts::follow(text, past, b"ppo ")?;
+    line_end(text, name, table)
 }
 
-fn ppo_line(text: &[u8], name_at: usize, past: usize) -> LineRead
-    ensures { result ≡ ppo_at text.now name_at past }
+fn line_end(text: &[u8], name: usize, table: usize) -> Result<Line, usize>
+    ensures { result ≡ line_end text.now name table }
 {
-    match texts::follow(text, past, b"ppo ") {
-        Step::Stuck(at) => LineRead::Stuck(at),
-        Step::Next(table) => line_end(text, name_at, table),
-    }
+    let next = table_part(text, table)?;
+    Ok(Line { name, table, next })
 }
 
-fn line_end(text: &[u8], name_at: usize, table: usize) -> LineRead
-    ensures { result ≡ line_end text.now name_at table }
-{
-    match table_part(text, table) {
-        Step::Stuck(at) => LineRead::Stuck(at),
-        Step::Next(next) => LineRead::Read(Line {
-            name: name_at,
-            table,
-            next,
-        }),
-    }
-}
-
-pub(crate) fn fence_line(text: &[u8], at: usize) -> LineRead
+#[tactic(auto, unfolding(crate::specs::Reading::fence_at))]
+pub(crate) fn fence_line(text: &[u8], at: usize) -> Result<Line, usize>
     ensures { result ≡ fence_at text.now at }
 {
-    match texts::follow(text, at, b"fence ") {
-        Step::Stuck(at) => LineRead::Stuck(at),
-        Step::Next(name_at) => match texts::name(text, name_at, b' ') {
-            Step::Stuck(at) => LineRead::Stuck(at),
-            Step::Next(table) => line_end(text, name_at, table),
-        },
-    }
+    let name = texts::follow(text, at, b"fence ")?;
+    let table = texts::name(text, name, b' ')?;
+    line_end(text, name, table)
 }

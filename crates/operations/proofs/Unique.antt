@@ -1,13 +1,13 @@
 -- The contract of each public function allows one result: it is an equation, and two results that meet it equal the same. Assumes nothing.
+use Rattle.std.proofs.Common.{Option}
 use Prim.Native.Nat.{ℕ, ◌<◌}
 use mathlib.Core.Path.{◌≡◌, sym, ◌∙◌}
 use Rattle.operations.specs.declared.Kind.{Kind}
 use Rattle.operations.specs.declared.Operation.{Operation}
-use Rattle.operations.specs.declared.Byte.{Byte}
 use Rattle.operations.specs.Operation.{byte_is, byte_of}
 use Rattle.operations.specs.Alphabet.{access_letters, kind_of, letter_of, operation_of, fence_mark}
 
-pub read_byte_one : (byte : ℕ) {r r' : Byte} → r ≡ byte_is byte → r' ≡ byte_is byte → r ≡ r'
+pub read_byte_one : (byte : ℕ) {r r' : Option Operation} → r ≡ byte_is byte → r' ≡ byte_is byte → r ≡ r'
 read_byte_one byte p q = p ∙ sym q
 
 pub byte_of_one : (operation : Operation) {r r' : ℕ} → r ≡ byte_of operation → r' ≡ byte_of operation → r ≡ r'

@@ -1,19 +1,18 @@
 -- Document 01: "An operation is one byte: `l` ld, `L` cld, `s` st, `S` cst, `0` to `9` then `A` to `F` for fence numbers 0 to 15."
-use Rattle.std.specs.Prelude.{ℕ, ◌+◌, ◌-◌, ◌<◌, cond, List, [], ◌∷◌, ltb, eqb}
+use Rattle.std.specs.Prelude.{ℕ, ◌+◌, ◌-◌, ◌<◌, cond, List, [], ◌∷◌, ltb, eqb, Option, Some, None}
 use Rattle.ground.specs.Bytes.{in_range}
 use Rattle.operations.specs.declared.Kind.{Kind}
 use Rattle.operations.specs.declared.Operation.{Operation}
-use Rattle.operations.specs.declared.Byte.{Byte}
 
-unfoldable pub byte_is : ℕ → Byte
+unfoldable pub byte_is : ℕ → Option Operation
 byte_is b =
-    cond (eqb b 108) (Byte.Is (Operation.Access Kind.Ld))
-    (cond (eqb b 76) (Byte.Is (Operation.Access Kind.Cld))
-    (cond (eqb b 115) (Byte.Is (Operation.Access Kind.St))
-    (cond (eqb b 83) (Byte.Is (Operation.Access Kind.Cst))
-    (cond (in_range 48 57 b) (Byte.Is (Operation.Fence (b - 48)))
-    (cond (in_range 65 70 b) (Byte.Is (Operation.Fence (b - 65 + 10)))
-    Byte.Nothing)))))
+    cond (eqb b 108) (Some (Operation.Access Kind.Ld))
+    (cond (eqb b 76) (Some (Operation.Access Kind.Cld))
+    (cond (eqb b 115) (Some (Operation.Access Kind.St))
+    (cond (eqb b 83) (Some (Operation.Access Kind.Cst))
+    (cond (in_range 48 57 b) (Some (Operation.Fence (b - 48)))
+    (cond (in_range 65 70 b) (Some (Operation.Fence (b - 65 + 10)))
+    None)))))
 
 abbrev pub access_byte : Kind → ℕ
 access_byte Kind.Ld = 108
@@ -35,10 +34,10 @@ HasByte (Operation.Access k) = Unit {0}
 HasByte (Operation.Fence n) = n < 16
 
 -- how many bytes of an output are fences
-abbrev pub is_fence : Byte → ℕ
-is_fence Byte.Nothing = 0
-is_fence (Byte.Is (Operation.Access k)) = 0
-is_fence (Byte.Is (Operation.Fence n)) = 1
+abbrev pub is_fence : Option Operation → ℕ
+is_fence None = 0
+is_fence (Some (Operation.Access k)) = 0
+is_fence (Some (Operation.Fence n)) = 1
 
 unfoldable pub fence_bytes : List ℕ → ℕ
 fence_bytes [] = 0

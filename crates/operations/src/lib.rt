@@ -22,24 +22,18 @@ pub enum Operation {
     Fence(usize),
 }
 
-// What a byte is: an operation, or nothing that a stream may hold.
-#[derive(Clone, Copy)]
-pub enum Byte {
-    Is(Operation),
-    Nothing,
-}
-
-pub fn read_byte(byte: u8) -> Byte
+// What operation a byte is; none where a stream may not hold the byte.
+pub fn read_byte(byte: u8) -> Option<Operation>
     ensures { result ≡ byte_is byte }
 {
     match byte {
-        b'l' => Byte::Is(Operation::Access(Kind::Ld)),
-        b'L' => Byte::Is(Operation::Access(Kind::Cld)),
-        b's' => Byte::Is(Operation::Access(Kind::St)),
-        b'S' => Byte::Is(Operation::Access(Kind::Cst)),
-        b'0'..=b'9' => Byte::Is(Operation::Fence((byte - b'0') as usize)),
-        b'A'..=b'F' => Byte::Is(Operation::Fence((byte - b'A') as usize + 10)),
-        _ => Byte::Nothing,
+        b'l' => Some(Operation::Access(Kind::Ld)),
+        b'L' => Some(Operation::Access(Kind::Cld)),
+        b's' => Some(Operation::Access(Kind::St)),
+        b'S' => Some(Operation::Access(Kind::Cst)),
+        b'0'..=b'9' => Some(Operation::Fence((byte - b'0') as usize)),
+        b'A'..=b'F' => Some(Operation::Fence((byte - b'A') as usize + 10)),
+        _ => None,
     }
 }
 

@@ -1,9 +1,9 @@
 -- The fence bytes of an output are the fences of its operations: reading the byte of an operation gives it back. Assumes nothing.
+use Rattle.std.proofs.Common.{Option}
 use Prim.Native.Nat.{ℕ, ◌+◌, ◌≤◌, ◌<◌}
 use mathlib.Core.Path.{◌≡◌, refl, ap₂, ◌∙◌}
 use mathlib.Core.List.{[], ◌∷◌, map}
 use native.Mathlib.Omega.{arith}
-use Rattle.operations.specs.declared.Byte.{Byte}
 use Rattle.operations.specs.declared.Operation.{Operation}
 use Rattle.operations.specs.Operation.{byte_of, is_fence, fence_bytes}
 use Rattle.operations.proofs.Bytes.{access_read, fence_read}
@@ -15,6 +15,6 @@ pub fence_bytes_are_fences : (n : ℕ) → n ≤ 16 → (s : Stream) → every_f
 unfolding fence_bytes
 fence_bytes_are_fences n few [] its = refl
 fence_bytes_are_fences n few (Operation.Access k ∷ s) its =
-    ap₂ (λ (b : Byte) (m : ℕ). is_fence b + m) (access_read k) (fence_bytes_are_fences n few s its) ∙ omega arith
+    ap₂ (λ (b : Option Operation) (m : ℕ). is_fence b + m) (access_read k) (fence_bytes_are_fences n few s its) ∙ omega arith
 fence_bytes_are_fences n few (Operation.Fence g ∷ s) its =
-    ap₂ (λ (b : Byte) (m : ℕ). is_fence b + m) (fence_read g (omega (arith, its.0))) (fence_bytes_are_fences n few s its.1) ∙ omega arith
+    ap₂ (λ (b : Option Operation) (m : ℕ). is_fence b + m) (fence_read g (omega (arith, its.0))) (fence_bytes_are_fences n few s its.1) ∙ omega arith

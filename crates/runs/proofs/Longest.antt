@@ -1,5 +1,6 @@
 -- What a direct run has done that gives bytes (`Done`), and what it puts out at most: for each operation an access with a fence before it, and no
 -- fence before the first access, since no pair ends there. Assumes nothing.
+use Rattle.std.proofs.Common.{Option, Some, None}
 use Prim.Native.Nat.{ℕ, suc, ◌-◌, ◌*◌, ◌<◌, ◌≤◌}
 use mathlib.Core.Path.{◌≡◌, refl, sym, ap, ◌∙◌}
 use mathlib.Core.Bool.{false}
@@ -12,7 +13,6 @@ use Rattle.answers.specs.declared.Refusal.{Refusal}
 use Rattle.answers.specs.Given.{gives}
 use Rattle.operations.specs.declared.Kind.{Kind}
 use Rattle.operations.specs.declared.Operation.{Operation}
-use Rattle.operations.specs.declared.Byte.{Byte}
 use Rattle.operations.specs.Operation.{byte_is, byte_of, is_fence, fence_bytes}
 use Rattle.operations.proofs.Bytes.{access_read}
 use Rattle.rule.specs.declared.way.Way.{Way}
@@ -61,10 +61,10 @@ few_operations n at (b ∷ stream) = by (judged n at b) (few_operations n (suc a
     by (bad why) h = omega arith
 
 -- and at most as many fence bytes as fences
-one_fence : (b : Byte) → is_fence b ≤ 1
-one_fence Byte.Nothing = omega arith
-one_fence (Byte.Is (Operation.Access k)) = omega arith
-one_fence (Byte.Is (Operation.Fence f)) = omega arith
+one_fence : (b : Option Operation) → is_fence b ≤ 1
+one_fence None = omega arith
+one_fence (Some (Operation.Access k)) = omega arith
+one_fence (Some (Operation.Fence f)) = omega arith
 
 few_fences : (out : Stream) → fence_bytes (map byte_of out) ≤ fences out
 unfolding fence_bytes

@@ -1,12 +1,11 @@
 -- A stream as bytes. Document 01: "4: a byte is no operation", "5: the upstream model has no such fence", "6: no fence will do for the way",
 -- each at its index, and "the earliest of 4, 5, 6 in the stream". "Success returns .. fences inserted".
 -- Up to the first byte at fault by 4 or 5 a stream is operations, and these are run by the rule: a refusal there, 6, is earlier.
-use Rattle.std.specs.Prelude.{ℕ, suc, ◌+◌, cond, List, [], ◌∷◌, map, ltb, length}
+use Rattle.std.specs.Prelude.{ℕ, suc, ◌+◌, cond, List, [], ◌∷◌, map, ltb, length, Option, Some, None}
 use Rattle.std.proofs.Math.Option.{Option, none, some}
 use Rattle.answers.specs.declared.Refusal.{Refusal}
 use Rattle.answers.specs.Given.{Given, gives, refuses}
 use Rattle.operations.specs.declared.Operation.{Operation}
-use Rattle.operations.specs.declared.Byte.{Byte}
 use Rattle.operations.specs.Operation.{byte_is, byte_of, fence_bytes}
 use Rattle.rule.specs.declared.way.Way.{Way}
 use Rattle.rule.specs.Stream.{Stream}
@@ -18,10 +17,10 @@ pub data Judged : Type 0 where
   good : Operation → Judged
   bad : Refusal → Judged
 
-abbrev pub judged_as : ℕ → ℕ → Byte → Judged
-judged_as n at Byte.Nothing = bad (Refusal.NoOperation at)
-judged_as n at (Byte.Is (Operation.Access k)) = good (Operation.Access k)
-judged_as n at (Byte.Is (Operation.Fence f)) = cond (ltb f n) (good (Operation.Fence f)) (bad (Refusal.NoSuchFence at))
+abbrev pub judged_as : ℕ → ℕ → Option Operation → Judged
+judged_as n at None = bad (Refusal.NoOperation at)
+judged_as n at (Some (Operation.Access k)) = good (Operation.Access k)
+judged_as n at (Some (Operation.Fence f)) = cond (ltb f n) (good (Operation.Fence f)) (bad (Refusal.NoSuchFence at))
 
 abbrev pub judged : ℕ → ℕ → ℕ → Judged
 judged n at b = judged_as n at (byte_is b)

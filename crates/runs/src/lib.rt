@@ -12,7 +12,7 @@ ghost use Rattle.runs.specs.inner.Laying.{turned, laid, given, Fits, Ends};
 ghost use Rattle.runs.specs.inner.Moves.{moved, moves, moved_by, asked, for_shim};
 
 use answers::{Answer, Refusal, Verdict};
-use operations::{Byte, Kind, Operation};
+use operations::{Option<Operation>, Kind, Operation};
 use rule::situation::Situation;
 use rule::way::{Shim, Step};
 use shims::Models;
@@ -64,8 +64,8 @@ fn one_if_fence(byte: u8) -> usize
 {
     let read = operations::read_byte(byte);
     match read {
-        Byte::Nothing => 0,
-        Byte::Is(operation) => match operation {
+        None => 0,
+        Some(operation) => match operation {
             Operation::Access(_) => 0,
             Operation::Fence(_) => 1,
         },
@@ -108,8 +108,8 @@ fn advance<'a>(
 {
     let read = operations::read_byte(byte);
     match read {
-        Byte::Nothing => Move::Refused(Refusal::NoOperation(at)),
-        Byte::Is(operation) => match operation {
+        None => Move::Refused(Refusal::NoOperation(at)),
+        Some(operation) => match operation {
             Operation::Access(kind) => access(shim, targets, situation, at, kind),
             Operation::Fence(number) => ask(fences, situation, at, number),
         },
@@ -186,7 +186,7 @@ fn finish(ended: Ended, buffer: &[u8], out: &mut [u8]) -> Answer
             let bytes = &buffer[..written];
             answers::write_out(bytes, fences_in(bytes), 0, out)
         }
-        Ended::Refused(why) => Answer::Refused(why),
+        Ended::Refused(why) => Err(why),
     }
 }
 
@@ -212,7 +212,7 @@ pub fn run_models(models: Models, stream: &[u8], out: &mut [u8]) -> Answer
     ensures { Delivers (run_given models stream.now) out.old result out.new }
 {
     if 4096 < stream.len() {
-        return Answer::Refused(Refusal::OverLimit);
+        return Err(Refusal::OverLimit);
     }
     let shim = shims::shim_between(models);
     let upstream = models.upstream;
@@ -239,7 +239,7 @@ pub fn run<'a>(
     let verdict = opening.verdict;
     let models = opening.models;
     match verdict {
-        Verdict::Refused(why) => Answer::Refused(why),
-        Verdict::Accepted => run_models(models, stream, out),
+        Err(why) => Err(why),
+        Ok(()) => run_models(models, stream, out),
     }
 }

@@ -1,17 +1,17 @@
 -- For each public function: two results that its contract allows are equal, since both are equal to what the contract names. Assumes nothing.
+use Rattle.std.proofs.Common.{Option, Some}
 use Prim.Native.Nat.{ℕ}
 use mathlib.Core.Path.{◌≡◌, sym, ◌∙◌}
 use mathlib.Core.List.{List}
 use lib.ListN.{take}
 use Rattle.rule.specs.declared.way.Shim.{Shim}
 use Rattle.rule.specs.declared.way.Way.{Way}
-use Rattle.shims.specs.declared.WayRead.{WayRead}
 use Rattle.shims.specs.declared.Models.{Models}
 use Rattle.shims.specs.declared.Opening.{Opening}
 use Rattle.shims.specs.Models.{shim_between}
 use Rattle.shims.specs.Opening.{way_of, opened_by, opened}
 
-pub way_of_one : (number : ℕ) {r r' : WayRead} → r ≡ way_of number → r' ≡ way_of number → r ≡ r'
+pub way_of_one : (number : ℕ) {r r' : Option Way} → r ≡ way_of number → r' ≡ way_of number → r ≡ r'
 way_of_one number p q = p ∙ sym q
 
 pub fences_of_one : (tables : List ℕ) (count : ℕ) {r r' : List ℕ} → r ≡ take count tables → r' ≡ take count tables → r ≡ r'
@@ -20,8 +20,8 @@ fences_of_one tables count p q = p ∙ sym q
 pub shim_between_one : (models : Models) {r r' : Shim} → r ≡ shim_between models → r' ≡ shim_between models → r ≡ r'
 shim_between_one models p q = p ∙ sym q
 
-pub read_texts_one : (way : Way) (upstream target : List ℕ) {r r' : Opening} → r ≡ opened_by (WayRead.Is way) upstream target
-    → r' ≡ opened_by (WayRead.Is way) upstream target → r ≡ r'
+pub read_texts_one : (way : Way) (upstream target : List ℕ) {r r' : Opening} → r ≡ opened_by (Some way) upstream target
+    → r' ≡ opened_by (Some way) upstream target → r ≡ r'
 read_texts_one way upstream target p q = p ∙ sym q
 
 pub read_both_one : (way : ℕ) (upstream target : List ℕ) {r r' : Opening} → r ≡ opened way upstream target → r' ≡ opened way upstream target

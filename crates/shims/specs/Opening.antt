@@ -1,41 +1,40 @@
 -- Document 01: "Order: way ..; upstream text (1, 2, 3); target text; ..", and 12: "a way .. is out of range". A way's number is that of an
 -- image, "the way (0 sparing, 1 full)".
-use Rattle.std.specs.Prelude.{ℕ, ◌≡◌, cond, List, eqb}
+use Rattle.std.specs.Prelude.{ℕ, ◌≡◌, cond, List, eqb, Option, Some, None, Ok, Err}
 use Rattle.answers.specs.declared.Refusal.{Refusal}
-use Rattle.answers.specs.declared.Verdict.{Verdict}
+use Rattle.answers.specs.Answer.{Verdict}
 use Rattle.answers.specs.Given.{Given, unless_refused, GivenUnless}
 use Rattle.rule.specs.declared.way.Way.{Way}
 use Rattle.models.specs.declared.model.Model.{Model}
-use Rattle.models.specs.declared.model.Reading.{Reading}
+use Rattle.models.specs.Told.{Reading}
 use Rattle.models.specs.Told as reader
 use Rattle.models.specs.Reading.{reading}
 use Rattle.models.specs.Told.{accepting}
-use Rattle.shims.specs.declared.WayRead.{WayRead}
 use Rattle.shims.specs.declared.Models.{Models}
 use Rattle.shims.specs.declared.Opening.{Opening}
 
-abbrev pub way_of : ℕ → WayRead
-way_of n = cond (eqb n 0) (WayRead.Is Way.Sparing) (cond (eqb n 1) (WayRead.Is Way.Full) WayRead.Nothing)
+abbrev pub way_of : ℕ → Option Way
+way_of n = cond (eqb n 0) (Some Way.Sparing) (cond (eqb n 1) (Some Way.Full) None)
 
 -- opened with these models, or refused with nothing
 abbrev pub opening : Models → Opening
-opening models = record { verdict = Verdict.Accepted; models = models }
+opening models = record { verdict = (Ok tt); models = models }
 
 abbrev pub nothing : Models
 nothing = record { way = Way.Sparing; upstream = reader.nothing; target = reader.nothing }
 
 abbrev pub refusing : Refusal → Opening
-refusing why = record { verdict = Verdict.Refused why; models = nothing }
+refusing why = record { verdict = Err why; models = nothing }
 
 -- the stages: each goes on, or is the call's refusal
 
-abbrev pub on_way : WayRead → (Way → Opening) → Opening
-on_way (WayRead.Is way) more = more way
-on_way WayRead.Nothing more = refusing Refusal.OutOfRange
+abbrev pub on_way : Option Way → (Way → Opening) → Opening
+on_way (Some way) more = more way
+on_way None more = refusing Refusal.OutOfRange
 
 abbrev pub on_verdict : Verdict → Opening → Opening
-on_verdict Verdict.Accepted more = more
-on_verdict (Verdict.Refused why) more = refusing why
+on_verdict (Ok tt) more = more
+on_verdict (Err why) more = refusing why
 
 abbrev pub on_reading : Reading → (Model → Opening) → Opening
 on_reading r more = on_verdict r.verdict (more r.model)
@@ -45,15 +44,15 @@ abbrev pub on_target : Way → Model → List ℕ → Opening
 on_target way upstream target =
     on_reading (reading target) λ (t : Model). opening (record { way = way; upstream = upstream; target = t })
 
-abbrev pub opened_by : WayRead → List ℕ → List ℕ → Opening
+abbrev pub opened_by : Option Way → List ℕ → List ℕ → Opening
 opened_by read upstream target = on_way read λ (way : Way). on_reading (reading upstream) λ (u : Model). on_target way u target
 
 abbrev pub opened : ℕ → List ℕ → List ℕ → Opening
 opened number upstream target = opened_by (way_of number) upstream target
 
 -- a number and two texts that are accepted name these models
-pub record Opens (read : WayRead) (upstream target : List ℕ) (models : Models) : Type 0 where
-  pub way_read : read ≡ WayRead.Is models.way
+pub record Opens (read : Option Way) (upstream target : List ℕ) (models : Models) : Type 0 where
+  pub way_read : read ≡ Some models.way
   pub upstream_read : reading upstream ≡ accepting models.upstream
   pub target_read : reading target ≡ accepting models.target
 

@@ -37,9 +37,9 @@ pub fn way_of(number: u64) -> WayRead
     ensures { result ≡ way_of number }
 {
     match number {
-        0 => WayRead::Is(Way::Sparing),
-        1 => WayRead::Is(Way::Full),
-        _ => WayRead::Nothing,
+        0 => Some(Way::Sparing),
+        1 => Some(Way::Full),
+        _ => None,
     }
 }
 
@@ -75,7 +75,7 @@ fn refuse(why: Refusal) -> Opening
 {
     let nothing = models::held::bare_model(Name { bytes: [0; 16] }, Table::NONE);
     Opening {
-        verdict: Verdict::Refused(why),
+        verdict: Err(why),
         models: Models {
             way: Way::Sparing,
             upstream: nothing,
@@ -92,9 +92,9 @@ fn read_target(way: Way, upstream: Model, target: &[u8]) -> Opening
     let verdict = read.verdict;
     let model = read.model;
     match verdict {
-        Verdict::Refused(why) => refuse(why),
-        Verdict::Accepted => Opening {
-            verdict: Verdict::Accepted,
+        Err(why) => refuse(why),
+        Ok(()) => Opening {
+            verdict: Ok(()),
             models: Models {
                 way,
                 upstream,
@@ -112,8 +112,8 @@ pub fn read_texts<'a>(way: Way, upstream: &'a [u8], target: &'a [u8]) -> Opening
     let verdict = read.verdict;
     let model = read.model;
     match verdict {
-        Verdict::Refused(first) => refuse(first),
-        Verdict::Accepted => read_target(way, model, target),
+        Err(first) => refuse(first),
+        Ok(()) => read_target(way, model, target),
     }
 }
 
@@ -123,7 +123,7 @@ pub fn read_both<'a>(way: u64, upstream: &'a [u8], target: &'a [u8]) -> Opening
 {
     let read = way_of(way);
     match read {
-        WayRead::Nothing => refuse(Refusal::OutOfRange),
-        WayRead::Is(is) => read_texts(is, upstream, target),
+        None => refuse(Refusal::OutOfRange),
+        Some(is) => read_texts(is, upstream, target),
     }
 }

@@ -1,6 +1,6 @@
 -- What is told of an input that was shown. No contract can say what is written to standard output; which answer was shown it can.
 use Rattle.std.specs.Prelude.{ℕ, ◌≡◌, List}
-use Rattle.answers.specs.declared.Answer.{Answer}
+use Rattle.answers.specs.Answer.{Answer}
 use Rattle.answers.specs.Given.{Given, answer_of}
 use Rattle.listing.specs.Listed.{Listed}
 

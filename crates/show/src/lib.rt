@@ -16,7 +16,7 @@ fn show_refusal(why: Refusal) {
         } => {
             io::write_all(1, &line[..written]);
         }
-        Answer::Refused(_) => {}
+        Err(_) => {}
     }
 }
 
@@ -33,7 +33,7 @@ pub fn show(input: &[u8]) -> Answer
         } => {
             io::write_all(1, &out[..written]);
         }
-        Answer::Refused(why) => show_refusal(why),
+        Err(why) => show_refusal(why),
     }
     answer
 }

@@ -1,5 +1,6 @@
 -- Forms of text put together from parts, and how far a text can be followed: laws for one part after another and for a choice, stated once
 -- for any parts. Assumes nothing.
+use Rattle.std.proofs.Common.{Ok, Err}
 use Prim.Native.Nat.{ℕ, zero, suc, ◌+◌, ◌-◌, ◌≤◌}
 use mathlib.Core.Path.{◌≡◌, refl, sym, ap, ◌∙◌, subst}
 use mathlib.Core.List.{List, [], ◌∷◌, ◌++◌, append_assoc}
@@ -9,7 +10,7 @@ use native.Mathlib.Decide.{dec_le}
 use native.Mathlib.Nat.{add_assoc, le_antisymm}
 use lib.ListN.{length, take, drop, get_or, length-append, length-drop, take-append-drop}
 use lib.Seq.{take-add, take_at, drop_at, length-take-le, take-append-add, drop-drop}
-use Rattle.texts.specs.declared.Step.{Step}
+use Rattle.texts.specs.Step.{Step}
 use Rattle.texts.specs.Language.{Language, Begins, Longest, Seq, Telling, Any, SeqOn, Or, Some}
 use Rattle.texts.specs.Language.{PrefixFree, Unique, Reads, found, stuck, shift, on_step, Judged, Judges}
 
@@ -178,10 +179,10 @@ some_seq L M (a, la) (b, mb) = (a ++ b, seq_join L M a b la mb)
 
 -- what a step has answered decides how it goes on
 module _ {A : Type 0} (refuse more : ℕ → A) {r st : Step} {x : A} {at : ℕ} (e : r ≡ st) where
-  pub step_stuck : r ≡ Step.Stuck at → x ≡ refuse at → x ≡ on_step refuse st more
+  pub step_stuck : r ≡ Err at → x ≡ refuse at → x ≡ on_step refuse st more
   step_stuck f is = is ∙ ap (λ (s : Step). on_step refuse s more) (sym f ∙ e)
 
-  pub step_next : r ≡ Step.Next at → x ≡ more at → x ≡ on_step refuse st more
+  pub step_next : r ≡ Ok at → x ≡ more at → x ≡ on_step refuse st more
   step_next f is = is ∙ ap (λ (s : Step). on_step refuse s more) (sym f ∙ e)
 
 -- answers of any kind, of which some refuse

@@ -1,4 +1,5 @@
 -- Following a name and the byte after it: found whole, or stopped at the longest beginning that a name allows. Assumes nothing.
+use Rattle.std.proofs.Common.{Ok, Err}
 use Prim.Native.Nat.{ℕ, zero, suc, ◌+◌, ◌≤◌, ◌<◌, suc-le-suc, zero-le}
 use mathlib.Core.Path.{◌≡◌, refl, sym, ap, ◌∙◌, subst}
 use mathlib.Core.Bool.{Bool, true, false, cond}
@@ -12,7 +13,7 @@ use lib.Dec.{T}
 use lib.ListN.{length, take, drop, get_or, length-append, get_or-append}
 use lib.Seq.{length-take-le, take-suc, get_or_at, get_or-take, take_at}
 use Rattle.ground.specs.Bytes.{name_byte}
-use Rattle.texts.specs.declared.Step.{Step}
+use Rattle.texts.specs.Step.{Step}
 use Rattle.texts.specs.Language.{Language, Begins, Seq, Some, PrefixFree, Reads, found, stuck, shift, on_step, Judges}
 use Rattle.texts.specs.NamePart.{Each, NameBytes, NameFormed, Ended, name_run, end_name, name_step, name_at}
 use Rattle.texts.proofs.Language.{judges_seq}
@@ -107,7 +108,7 @@ module _ (e : ℕ) (not-name : T (name_byte e) → ⊥) where
         let e : length (take k s) ≡ k = length-take-le k s r.within in
         record { some = omega arith; few = omega (arith, r.few); bytes = r.bytes }
 
-    reads_stuck : (1 ≤ k → k < length s → get_or s k 0 ≡ e → ⊥) → Reads (Ended e) s (Step.Stuck k)
+    reads_stuck : (1 ≤ k → k < length s → get_or s k 0 ≡ e → ⊥) → Reads (Ended e) s (Err k)
     reads_stuck no_end = stuck record { within = r.within; begins = completed (dec_lt 0 k); longest = most } none
       where
         completed : Dec (0 < k) → Begins (Ended e) (take k s)
@@ -132,7 +133,7 @@ module _ (e : ℕ) (not-name : T (name_byte e) → ⊥) where
             let all : take j s ++ [] ≡ n ++ (e ∷ []) = append-nil (take j s) ∙ whole in
             not_before [] n j lj (omega arith) all (omega (arith, most j lj ([], (n, f, all))))
 
-    reads_found : 1 ≤ k → k < length s → get_or s k 0 ≡ e → Reads (Ended e) s (Step.Next (k + 1))
+    reads_found : 1 ≤ k → k < length s → get_or s k 0 ≡ e → Reads (Ended e) s (Ok (k + 1))
     reads_found h l is =
         let cut : take (k + 1) s ≡ take k s ++ (e ∷ []) = rw add-one (take-suc s k 0 l ∙ ap (λ (b : ℕ). take k s ++ (b ∷ [])) is) in
         found {n = k + 1} (omega arith) (take k s, named h, cut)
@@ -144,16 +145,16 @@ module _ (e : ℕ) (not-name : T (name_byte e) → ⊥) where
         by : Dec (0 < k) → Dec (k < length s) → Dec (get_or s k 0 ≡ e) → Reads (Ended e) s (end_name e s k)
         by (no z) l q =
             let none : k ≡ 0 = omega arith in
-            let is : end_name e s k ≡ Step.Stuck k = simp (eq-eqb k 0 none) (ap Step.Stuck (sym none)) in
+            let is : end_name e s k ≡ Err k = simp (eq-eqb k 0 none) (ap Err (sym none)) in
             subst (λ (st : Step). Reads (Ended e) s st) (sym is) (reads_stuck (λ some l' q'. omega arith))
         by (yes h) (no l) q =
-            let is : end_name e s k ≡ Step.Stuck k = simp (ne_eqb k 0 (λ z. omega arith), le-ltb k (length s) (omega arith)) in
+            let is : end_name e s k ≡ Err k = simp (ne_eqb k 0 (λ z. omega arith), le-ltb k (length s) (omega arith)) in
             subst (λ (st : Step). Reads (Ended e) s st) (sym is) (reads_stuck (λ some l' q'. omega arith))
         by (yes h) (yes l) (no q) =
-            let is : end_name e s k ≡ Step.Stuck k = simp (ne_eqb k 0 (λ z. omega arith), lt-ltb k (length s) l, ne_eqb (get_or s k 0) e q) in
+            let is : end_name e s k ≡ Err k = simp (ne_eqb k 0 (λ z. omega arith), lt-ltb k (length s) l, ne_eqb (get_or s k 0) e q) in
             subst (λ (st : Step). Reads (Ended e) s st) (sym is) (reads_stuck (λ some l' q'. q q'))
         by (yes h) (yes l) (yes q) =
-            let is : end_name e s k ≡ Step.Next (k + 1) = simp (ne_eqb k 0 (λ z. omega arith), lt-ltb k (length s) l, eq-eqb (get_or s k 0) e q) in
+            let is : end_name e s k ≡ Ok (k + 1) = simp (ne_eqb k 0 (λ z. omega arith), lt-ltb k (length s) l, eq-eqb (get_or s k 0) e q) in
             subst (λ (st : Step). Reads (Ended e) s st) (sym is) (reads_found h l q)
 
 pub reads_name : (e : ℕ) → (T (name_byte e) → ⊥) → (s : List ℕ) → Reads (Ended e) s (name_step e s)
@@ -182,7 +183,7 @@ free_ended e not-name s m n lm ln (a, fa, ea) (b, fb, eb) = by (dec_lt (length a
     by (no l) (no g) = omega (arith, long a m lm ea, long b n ln eb)
 
 -- a name and e after it, at the front of a longer text, are found whole
-pub name_whole : (e : ℕ) → (T (name_byte e) → ⊥) → (n rest : List ℕ) → NameFormed n → name_step e (n ++ (e ∷ rest)) ≡ Step.Next (length n + 1)
+pub name_whole : (e : ℕ) → (T (name_byte e) → ⊥) → (n rest : List ℕ) → NameFormed n → name_step e (n ++ (e ∷ rest)) ≡ Ok (length n + 1)
 name_whole e not-name n rest f = by (reads_name e not-name (n ++ (e ∷ rest)))
   where
     whole : List ℕ
@@ -200,9 +201,9 @@ name_whole e not-name n rest f = by (reads_name e not-name (n ++ (e ∷ rest)))
     is : Ended e (take (length n + 1) whole)
     is = (n, f, front)
 
-    by : {r : Step} → Reads (Ended e) whole r → r ≡ Step.Next (length n + 1)
+    by : {r : Step} → Reads (Ended e) whole r → r ≡ Ok (length n + 1)
     by (stuck h none) = absurd (none (length n + 1) reach is)
-    by (found {n = m} lm a) = ap Step.Next (free_ended e not-name whole m (length n + 1) lm reach a is)
+    by (found {n = m} lm a) = ap Ok (free_ended e not-name whole m (length n + 1) lm reach a is)
 
 -- a text by which a beginning can be completed
 pub some_name : (e : ℕ) → Some (Ended e)
@@ -224,7 +225,7 @@ run_whole (suc limit) (b ∷ n) rest e h l not-name =
 
 -- a name at a place of the whole text
 pub name_found : (t n rest : List ℕ) (e at : ℕ) → drop at t ≡ (n ++ (e ∷ [])) ++ rest → NameFormed n → (T (name_byte e) → ⊥)
-    → name_at e t at ≡ Step.Next (at + (length n + 1))
+    → name_at e t at ≡ Ok (at + (length n + 1))
 name_found t n rest e at is f not-name =
     ap (λ (s : List ℕ). shift at (name_step e s)) (is ∙ append_assoc n (e ∷ []) rest) ∙ ap (shift at) (name_whole e not-name n rest f)
 

@@ -1,5 +1,6 @@
 -- Following a number in decimal and the byte after it: found whole, or stopped at the longest beginning that a number below the bound allows,
 -- since each number that has been read is complete as it stands. Assumes nothing.
+use Rattle.std.proofs.Common.{Ok, Err}
 use Prim.Native.Nat.{ℕ, zero, suc, ◌+◌, ◌-◌, ◌/◌, ◌%◌, ◌≤◌, ◌<◌, zero-le, suc-le-suc}
 use mathlib.Core.Path.{◌≡◌, refl, sym, ap, ap₂, subst, ◌∙◌}
 use mathlib.Core.Bool.{Bool, true, false, not, ◌&&◌, cond}
@@ -13,7 +14,7 @@ use lib.ListN.{length, take, drop, get_or, length-append}
 use lib.Seq.{length-take-le}
 use Rattle.printing.specs.Decimal.{decimal}
 use Rattle.printing.proofs.Decimals.{one_digit, more_digits}
-use Rattle.texts.specs.declared.Part.{Part}
+use Rattle.texts.specs.Step.{Part}
 use Rattle.texts.specs.Language.{Begins, Longest, Telling, Any, Some, Unique}
 use Rattle.texts.specs.Pattern.{is_word}
 use Rattle.texts.specs.NumberPart.{is_digit, with_digit, digit_goes_on, part_further, part_shift, number_rest, number_step, number_at}
@@ -187,8 +188,8 @@ module _ (L : Telling ℕ) (none_left : (w : ℕ) → L w [] → ⊥) where
   goes : (M : Telling ℕ) (b : ℕ) → ((w : ℕ) (t : List ℕ) → M w t → L w (b ∷ t)) → ((w : ℕ) (t : List ℕ) → L w (b ∷ t) → M w t)
       → (s : List ℕ) (r : Part)
       → Finds M s 0 (part_taken r) → Finds L (b ∷ s) 0 (part_taken (part_further r))
-  goes M b close apart s (Part.Next p w) (finds {n = n} is ln x) = finds {n = suc n} {p = suc p} (omega arith) (suc-le-suc ln) (close w (take n s) x)
-  goes M b close apart s (Part.Stuck p) (departs {k = k} is h none) = departs {k = suc k} {p = suc p} (omega arith) longest nothing
+  goes M b close apart s (Ok (p, w)) (finds {n = n} is ln x) = finds {n = suc n} {p = suc p} (omega arith) (suc-le-suc ln) (close w (take n s) x)
+  goes M b close apart s (Err p) (departs {k = k} is h none) = departs {k = suc k} {p = suc p} (omega arith) longest nothing
     where
       most : (j : ℕ) → j ≤ length (b ∷ s) → Begins (Any L) (take j (b ∷ s)) → j ≤ suc k
       most zero l x = zero-le
@@ -247,7 +248,7 @@ module _ (bound e : ℕ) where
       N = number_rest bound e (with_digit v b) s
 
       R : Bool → Bool → Part
-      R p q = cond p (Part.Next 1 v) (cond q (part_further N) (Part.Stuck 0))
+      R p q = cond p (Ok (1, v)) (cond q (part_further N) (Err 0))
 
       tested : (p q : Bool) → eqb b e ≡ p → digit_goes_on bound v b ≡ q → Finds (More v) (b ∷ s) 0 (part_taken (R p q))
           → Finds (More v) (b ∷ s) 0 (part_taken (R (eqb b e) (digit_goes_on bound v b)))
@@ -310,7 +311,7 @@ module _ (bound e : ℕ) where
       N : Part
       N = number_rest bound e (b - 48) s
 
-      by : (q : Bool) → is_digit b && ltb (b - 48) bound ≡ q → Finds (Numbered bound e) (b ∷ s) 0 (part_taken (cond q (part_further N) (Part.Stuck 0)))
+      by : (q : Bool) → is_digit b && ltb (b - 48) bound ≡ q → Finds (Numbered bound e) (b ∷ s) 0 (part_taken (cond q (part_further N) (Err 0)))
       by true hq =
           let g = and_apart (is_digit b) (ltb (b - 48) bound) (subst T (sym hq) tt) in
           goes (Numbered bound e) empty_not (More (b - 48)) b (λ w t. first_closed w b t g.0) (λ w t x. (first_opened w b t x).1) s N
@@ -326,8 +327,8 @@ module _ (bound e : ℕ) where
   finds_number l t at = by (number_step bound e (drop at t)) (number_finds l (drop at t))
     where
       by : (r : Part) → Finds (Numbered bound e) (drop at t) 0 (part_taken r) → Finds (Numbered bound e) t at (part_taken (part_shift at r))
-      by (Part.Next p w) (finds {n = n} is ln x) = finds {n = n} {p = at + p} (omega arith) ln x
-      by (Part.Stuck p) (departs {k = k} is h none) = departs {k = k} {p = at + p} (omega arith) h none
+      by (Ok (p, w)) (finds {n = n} is ln x) = finds {n = n} {p = at + p} (omega arith) ln x
+      by (Err p) (departs {k = k} is h none) = departs {k = k} {p = at + p} (omega arith) h none
 
   -- a number ends where no digit stands
   module _ (not_digit : T (is_digit e) → ⊥) where

@@ -1,4 +1,5 @@
 -- One byte more of a number, at a place of the whole text: what the loop of `number_rest` goes by. Assumes nothing.
+use Rattle.std.proofs.Common.{Ok, Err}
 use Prim.Native.Nat.{ℕ, suc, ◌+◌, ◌-◌, ◌≤◌, ◌<◌}
 use mathlib.Core.Path.{◌≡◌, sym, ap, ◌∙◌}
 use mathlib.Core.Bool.{true, false, ◌&&◌, cond}
@@ -10,21 +11,21 @@ use borrow.Author.Tests.{eq-eqb, ne_eqb}
 use lib.Dec.{eqb, ltb}
 use lib.ListN.{length, drop, get_or, drop_of_length-le}
 use lib.Seq.{drop-cons}
-use Rattle.texts.specs.declared.Part.{Part}
+use Rattle.texts.specs.Step.{Part}
 use Rattle.texts.specs.NumberPart.{is_digit, with_digit, digit_goes_on, part_further, part_shift, number_rest, number_step, number_at}
 
 shift_further : (here : ℕ) (r : Part) → part_shift here (part_further r) ≡ part_shift (here + 1) r
-shift_further here (Part.Next k v) = ap (λ (p : ℕ). Part.Next p v) (omega arith)
-shift_further here (Part.Stuck k) = ap Part.Stuck (omega arith)
+shift_further here (Ok (k, v)) = ap (λ (p : ℕ). Ok (p, v)) (omega arith)
+shift_further here (Err k) = ap Err (omega arith)
 
 module _ (bound e v : ℕ) (t : List ℕ) (here : ℕ) where
   -- v has been read, and the rest is read from here
   abbrev Left : Part
   Left = part_shift here (number_rest bound e v (drop here t))
 
-  pub rest_over : length t ≤ here → Left ≡ Part.Stuck here
+  pub rest_over : length t ≤ here → Left ≡ Err here
   unfolding number_rest
-  rest_over l = rw (drop_of_length-le t l) (ap Part.Stuck (add-zero here))
+  rest_over l = rw (drop_of_length-le t l) (ap Err (add-zero here))
 
   module _ (l : here < length t) where
     abbrev b : ℕ
@@ -33,16 +34,16 @@ module _ (bound e v : ℕ) (t : List ℕ) (here : ℕ) where
     abbrev after : List ℕ
     after = drop (suc here) t
 
-    tested : Left ≡ part_shift here (cond (eqb b e) (Part.Next 1 v)
-        (cond (digit_goes_on bound v b) (part_further (number_rest bound e (with_digit v b) after)) (Part.Stuck 0)))
+    tested : Left ≡ part_shift here (cond (eqb b e) (Ok (1, v))
+        (cond (digit_goes_on bound v b) (part_further (number_rest bound e (with_digit v b) after)) (Err 0)))
     unfolding number_rest
     tested = ap (λ (s : List ℕ). part_shift here (number_rest bound e v s)) (drop-cons t here 0 l)
 
-    pub rest_ends : get_or t here 0 ≡ e → Left ≡ Part.Next (here + 1) v
+    pub rest_ends : get_or t here 0 ≡ e → Left ≡ Ok ((here + 1), v)
     rest_ends same = tested ∙ rw (eq-eqb _ _ same)
 
-    pub rest_not : (get_or t here 0 ≡ e → ⊥) → digit_goes_on bound v (get_or t here 0) ≡ false → Left ≡ Part.Stuck here
-    rest_not other g = tested ∙ rw (ne_eqb _ _ other, g) (ap Part.Stuck (add-zero here))
+    pub rest_not : (get_or t here 0 ≡ e → ⊥) → digit_goes_on bound v (get_or t here 0) ≡ false → Left ≡ Err here
+    rest_not other g = tested ∙ rw (ne_eqb _ _ other, g) (ap Err (add-zero here))
 
     pub rest_more : (get_or t here 0 ≡ e → ⊥) → digit_goes_on bound v (get_or t here 0) ≡ true
         → Left ≡ part_shift (here + 1) (number_rest bound e (with_digit v (get_or t here 0)) (drop (here + 1) t))
@@ -53,18 +54,18 @@ module _ (bound e v : ℕ) (t : List ℕ) (here : ℕ) where
 
 -- the first digit
 module _ (bound e : ℕ) (t : List ℕ) (at : ℕ) where
-  pub number_over : length t ≤ at → number_at bound e t at ≡ Part.Stuck at
+  pub number_over : length t ≤ at → number_at bound e t at ≡ Err at
   unfolding number_step
-  number_over l = rw (drop_of_length-le t l) (ap Part.Stuck (add-zero at))
+  number_over l = rw (drop_of_length-le t l) (ap Err (add-zero at))
 
   module _ (l : at < length t) where
     first : number_at bound e t at ≡ part_shift at (cond (is_digit (get_or t at 0) && ltb (get_or t at 0 - 48) bound)
-        (part_further (number_rest bound e (get_or t at 0 - 48) (drop (suc at) t))) (Part.Stuck 0))
+        (part_further (number_rest bound e (get_or t at 0 - 48) (drop (suc at) t))) (Err 0))
     unfolding number_step
     first = ap (λ (s : List ℕ). part_shift at (number_step bound e s)) (drop-cons t at 0 l)
 
-    pub number_not : is_digit (get_or t at 0) && ltb (get_or t at 0 - 48) bound ≡ false → number_at bound e t at ≡ Part.Stuck at
-    number_not g = first ∙ rw g (ap Part.Stuck (add-zero at))
+    pub number_not : is_digit (get_or t at 0) && ltb (get_or t at 0 - 48) bound ≡ false → number_at bound e t at ≡ Err at
+    number_not g = first ∙ rw g (ap Err (add-zero at))
 
     pub number_first : is_digit (get_or t at 0) && ltb (get_or t at 0 - 48) bound ≡ true
         → number_at bound e t at ≡ part_shift (at + 1) (number_rest bound e (get_or t at 0 - 48) (drop (at + 1) t))

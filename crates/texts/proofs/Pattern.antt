@@ -1,5 +1,6 @@
 -- Following a pattern: of a text either all of the pattern is found in front, or the steps stop at the longest beginning that it allows.
 -- Assumes nothing.
+use Rattle.std.proofs.Common.{Ok, Err}
 use Prim.Native.Nat.{ℕ, zero, suc, ◌+◌, ◌≤◌, ◌<◌, suc-le-suc, zero-le}
 use mathlib.Core.Path.{◌≡◌, refl, sym, ap, ap₂, ◌∙◌, subst}
 use mathlib.Core.Bool.{Bool, true, false, not, ◌&&◌, cond}
@@ -10,7 +11,7 @@ use lib.Dec.{T, eqb, eqb→eq, eqb_refl}
 use lib.ListN.{length, take, drop, get_or}
 use lib.Seq.{length-take-le, take-nil}
 use Rattle.ground.proofs.Truths.{differ}
-use Rattle.texts.specs.declared.Step.{Step}
+use Rattle.texts.specs.Step.{Step}
 use Rattle.texts.specs.Language.{Language, Begins, Seq, Some, PrefixFree, Reads, found, stuck, shift, on_step, Judges}
 use Rattle.texts.specs.Pattern.{cell_byte, fits, Follows, is_word, further, follow, follow_at}
 use Rattle.texts.proofs.Language.{judges_seq}
@@ -46,7 +47,7 @@ chosen true a b t = refl
 chosen false a b t = absurd t
 
 -- the pattern at the front of a longer text is found whole
-pub follow_whole : (ps a rest : List ℕ) → Follows ps a → follow ps (a ++ rest) ≡ Step.Next (length ps)
+pub follow_whole : (ps a rest : List ℕ) → Follows ps a → follow ps (a ++ rest) ≡ Ok (length ps)
 unfolding follow
 follow_whole [] [] rest f = refl
 follow_whole [] (b ∷ a) rest f = absurd f
@@ -75,7 +76,7 @@ reads_more p b ps s t (stuck {k = k} h none) = stuck
     none_more zero ln f = f
     none_more (suc n) ln f = none n (le_of_suc-le-suc ln) f.1
 
-reads_none : (p b : ℕ) (ps s : List ℕ) → (T (fits p b) → ⊥) → Reads (Follows (p ∷ ps)) (b ∷ s) (Step.Stuck 0)
+reads_none : (p b : ℕ) (ps s : List ℕ) → (T (fits p b) → ⊥) → Reads (Follows (p ∷ ps)) (b ∷ s) (Err 0)
 reads_none p b ps s not-fit = stuck record { within = zero-le; begins = (sample (p ∷ ps), sample_follows (p ∷ ps)); longest = most } none
   where
     most : (j : ℕ) → j ≤ length (b ∷ s) → Begins (Follows (p ∷ ps)) (take j (b ∷ s)) → j ≤ 0
@@ -99,7 +100,7 @@ reads_follow (p ∷ ps) [] = stuck
 reads_follow (p ∷ ps) (b ∷ s) = by (fits p b) (λ t. t) (λ t. t) (reads_follow ps s)
   where
     by : (q : Bool) → (T q → T (fits p b)) → (T (fits p b) → T q) → Reads (Follows ps) s (follow ps s)
-        → Reads (Follows (p ∷ ps)) (b ∷ s) (cond q (further (follow ps s)) (Step.Stuck 0))
+        → Reads (Follows (p ∷ ps)) (b ∷ s) (cond q (further (follow ps s)) (Err 0))
     by true to back r = reads_more p b ps s (to tt) r
     by false to back r = reads_none p b ps s back
 
@@ -139,13 +140,13 @@ own_word (p ∷ ps) w = (
 )
 
 -- a pattern at a place of the whole text
-pub followed : (ps t a b : List ℕ) (at : ℕ) → drop at t ≡ a ++ b → Follows ps a → follow_at ps t at ≡ Step.Next (at + length ps)
+pub followed : (ps t a b : List ℕ) (at : ℕ) → drop at t ≡ a ++ b → Follows ps a → follow_at ps t at ≡ Ok (at + length ps)
 followed ps t a b at is f = ap (λ (s : List ℕ). shift at (follow ps s)) is ∙ ap (shift at) (follow_whole ps a b f)
 
-pub pattern_past : (ps t : List ℕ) (at p : ℕ) → follow_at ps t at ≡ Step.Next p → at + length ps ≡ p
+pub pattern_past : (ps t : List ℕ) (at p : ℕ) → follow_at ps t at ≡ Ok p → at + length ps ≡ p
 pattern_past ps t at p = by (reads_follow ps (drop at t))
   where
-    by : {r : Step} → Reads (Follows ps) (drop at t) r → shift at r ≡ Step.Next p → at + length ps ≡ p
+    by : {r : Step} → Reads (Follows ps) (drop at t) r → shift at r ≡ Ok p → at + length ps ≡ p
     by (found {n = m} lm f) is =
         let same : at + m ≡ p = cc in
         omega (arith, length-take-le m (drop at t) lm, length-follows ps (take m (drop at t)) f)

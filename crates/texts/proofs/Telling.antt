@@ -12,7 +12,7 @@ use lib.ListN.{length, take, drop, get_or, length-append, length-drop, take-appe
 use lib.Seq.{take-add, take-append-le, take-take, drop-drop, drop_at, drop-cons, take_at, take-length, length-take-le}
 use Rattle.ground.specs.Bytes.{name_byte}
 use Rattle.texts.specs.Language.{Begins, Longest, Seq, Telling, Any, SeqOn, Or, Some, Unique, Reads, found, stuck, shift}
-use Rattle.texts.specs.declared.Step.{Step}
+use Rattle.texts.specs.Step.{Step}
 use Rattle.texts.specs.Pattern.{Follows, is_word, follow_at}
 use Rattle.texts.specs.NamePart.{NameFormed, Ended, name_run, name_at}
 use Rattle.texts.specs.Telling.{Then, Through, Items, Either, After, Word, Named}

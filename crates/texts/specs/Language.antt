@@ -1,7 +1,7 @@
 -- Forms of text. Document 01, refusal 2: "a text is not of the form", at the "length of its longest beginning that begins some text of the
 -- form".
-use Rattle.std.specs.Prelude.{ℕ, ◌+◌, ◌≤◌, ◌≡◌, List, ◌++◌, ◌⊎◌, length, take, drop}
-use Rattle.texts.specs.declared.Step.{Step}
+use Rattle.std.specs.Prelude.{ℕ, ◌+◌, ◌≤◌, ◌≡◌, List, ◌++◌, ◌⊎◌, length, take, drop, Ok, Err}
+use Rattle.texts.specs.Step.{Step}
 
 -- a form: which texts are of it
 abbrev pub Language : Type 1
@@ -52,18 +52,18 @@ Unique {A} L =
 -- what following one part from the front of s finds: the part, which ends at n; or that no beginning of s is of its form, and how far the
 -- longest goes that begins one
 pub data Reads (L : Language) (s : List ℕ) : Step → Type 0 where
-  found : {n : ℕ} → n ≤ length s → L (take n s) → Reads L s (Step.Next n)
-  stuck : {k : ℕ} → Longest L s k → ((n : ℕ) → n ≤ length s → L (take n s) → ⊥) → Reads L s (Step.Stuck k)
+  found : {n : ℕ} → n ≤ length s → L (take n s) → Reads L s (Ok n)
+  stuck : {k : ℕ} → Longest L s k → ((n : ℕ) → n ≤ length s → L (take n s) → ⊥) → Reads L s (Err k)
 
 -- n places further on
 abbrev pub shift : ℕ → Step → Step
-shift n (Step.Next k) = Step.Next (n + k)
-shift n (Step.Stuck k) = Step.Stuck (n + k)
+shift n (Ok k) = Ok (n + k)
+shift n (Err k) = Err (n + k)
 
 -- go on at the next place, or refuse where the text departs from the form
 abbrev pub on_step : {A : Type 0} → (ℕ → A) → Step → (ℕ → A) → A
-on_step refuse (Step.Next at) more = more at
-on_step refuse (Step.Stuck at) more = refuse at
+on_step refuse (Ok at) more = more at
+on_step refuse (Err at) more = refuse at
 
 -- what is answered of s, which stands at a place of a text, as a whole: it is of the form, or the answer is the refusal at its longest
 -- beginning

@@ -1,3 +1,4 @@
+pub mod Step
 pub mod Language
 pub mod Pattern
 pub mod NamePart

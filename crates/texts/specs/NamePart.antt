@@ -1,8 +1,8 @@
 -- Document 01: "Names are 1 to 16 ASCII letters, digits or underscores; letter case counts." The steps by which a text is followed over a
 -- name and the byte after it. That they read it is proved in proofs/NamePart.
-use Rattle.std.specs.Prelude.{ℕ, zero, suc, ◌+◌, ◌≤◌, ◌≡◌, cond, List, [], ◌∷◌, ◌++◌, T, eqb, ltb, length, get_or, drop}
+use Rattle.std.specs.Prelude.{ℕ, zero, suc, ◌+◌, ◌≤◌, ◌≡◌, cond, List, [], ◌∷◌, ◌++◌, T, eqb, ltb, length, get_or, drop, Ok, Err}
 use Rattle.ground.specs.Bytes.{name_byte}
-use Rattle.texts.specs.declared.Step.{Step}
+use Rattle.texts.specs.Step.{Step}
 use Rattle.texts.specs.Language.{Language, shift}
 
 -- each of a list is so
@@ -31,8 +31,8 @@ name_run (suc n) (b ∷ s) = cond (name_byte b) (suc (name_run n s)) 0
 -- n name bytes have been counted: a name must have one, and the byte after it must be e
 abbrev pub end_name : ℕ → List ℕ → ℕ → Step
 end_name e s n =
-    cond (eqb n 0) (Step.Stuck 0)
-    (cond (ltb n (length s)) (cond (eqb (get_or s n 0) e) (Step.Next (n + 1)) (Step.Stuck n)) (Step.Stuck n))
+    cond (eqb n 0) (Err 0)
+    (cond (ltb n (length s)) (cond (eqb (get_or s n 0) e) (Ok (n + 1)) (Err n)) (Err n))
 
 unfoldable pub name_step : ℕ → List ℕ → Step
 name_step e s = end_name e s (name_run 16 s)

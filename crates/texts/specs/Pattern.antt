@@ -1,7 +1,7 @@
 -- Patterns, and the steps by which a text follows one. A step says how many bytes of what is left belong to the part, or how many can be
 -- followed before the text departs from it. That it reads the part is proved in proofs/Pattern.
-use Rattle.std.specs.Prelude.{ℕ, suc, Bool, true, not, ◌&&◌, ◌||◌, cond, List, [], ◌∷◌, T, eqb, drop}
-use Rattle.texts.specs.declared.Step.{Step}
+use Rattle.std.specs.Prelude.{ℕ, suc, Bool, true, not, ◌&&◌, ◌||◌, cond, List, [], ◌∷◌, T, eqb, drop, Ok, Err}
+use Rattle.texts.specs.Step.{Step}
 use Rattle.texts.specs.Language.{Language, shift}
 
 -- `-`, `N`, `M` or `S`
@@ -26,13 +26,13 @@ is_word (p ∷ ps) = not (eqb p 63) && is_word ps
 
 -- one place further on
 abbrev pub further : Step → Step
-further (Step.Next k) = Step.Next (suc k)
-further (Step.Stuck k) = Step.Stuck (suc k)
+further (Ok k) = Ok (suc k)
+further (Err k) = Err (suc k)
 
 unfoldable pub follow : List ℕ → List ℕ → Step
-follow [] s = Step.Next 0
-follow (p ∷ ps) [] = Step.Stuck 0
-follow (p ∷ ps) (b ∷ s) = cond (fits p b) (further (follow ps s)) (Step.Stuck 0)
+follow [] s = Ok 0
+follow (p ∷ ps) [] = Err 0
+follow (p ∷ ps) (b ∷ s) = cond (fits p b) (further (follow ps s)) (Err 0)
 
 -- the same at a place of the whole text
 abbrev pub follow_at : List ℕ → List ℕ → ℕ → Step

@@ -1,8 +1,8 @@
 -- Parts of a text that tell something: a number, a name, the words of a row. How they are put together, and what reading one finds.
-use Rattle.std.specs.Prelude.{ℕ, zero, suc, ◌+◌, ◌≤◌, ◌<◌, ◌≡◌, List, [], ◌∷◌, ◌++◌, ◌⊎◌, length, take, drop}
+use Rattle.std.specs.Prelude.{ℕ, zero, suc, ◌+◌, ◌≤◌, ◌<◌, ◌≡◌, List, [], ◌∷◌, ◌++◌, ◌⊎◌, length, take, drop, Ok, Err}
 use Rattle.printing.specs.Decimal.{decimal}
-use Rattle.texts.specs.declared.Step.{Step}
-use Rattle.texts.specs.declared.Part.{Part}
+use Rattle.texts.specs.Step.{Step}
+use Rattle.texts.specs.Step.{Part}
 use Rattle.texts.specs.Language.{Longest, Seq, Telling, Any}
 use Rattle.texts.specs.NamePart.{NameFormed, name_run}
 
@@ -50,13 +50,13 @@ pub data Finds {A : Type 0} (L : Telling A) (t : List ℕ) (at : ℕ) : Taken A 
 
 -- what following a word has taken, what following a name has, and what following a part of one number has
 abbrev pub word_taken : Step → Taken Unit
-word_taken (Step.Next p) = took p tt
-word_taken (Step.Stuck p) = stopped p
+word_taken (Ok p) = took p tt
+word_taken (Err p) = stopped p
 
 abbrev pub name_taken : List ℕ → ℕ → Step → Taken (List ℕ)
-name_taken t at (Step.Next p) = took p (take (name_run 16 (drop at t)) (drop at t))
-name_taken t at (Step.Stuck p) = stopped p
+name_taken t at (Ok p) = took p (take (name_run 16 (drop at t)) (drop at t))
+name_taken t at (Err p) = stopped p
 
 abbrev pub part_taken : Part → Taken ℕ
-part_taken (Part.Next p n) = took p n
-part_taken (Part.Stuck p) = stopped p
+part_taken (Ok (p, n)) = took p n
+part_taken (Err p) = stopped p

@@ -7,18 +7,10 @@ ghost use Rattle.texts.specs.Pattern.{cell_byte, fits, follow_at};
 ghost use Rattle.texts.specs.NamePart.{name_run, name_at};
 ghost use Rattle.texts.specs.NumberPart.{is_digit, with_digit, digit_goes_on, part_shift, number_rest, number_at};
 
-#[derive(Clone, Copy)]
-pub enum Step {
-    Next(usize),
-    Stuck(usize),
-}
+pub type Step = Result<usize, usize>;
 
 // The same of a part that tells a number: the place after it with the number.
-#[derive(Clone, Copy)]
-pub enum Part {
-    Next(usize, usize),
-    Stuck(usize),
-}
+pub type Part = Result<(usize, usize), usize>;
 
 fn is_cell(b: u8) -> bool
     ensures { result ≡ cell_byte b }
@@ -53,15 +45,15 @@ pub fn follow(text: &[u8], at: usize, pattern: &[u8]) -> Step
     let mut i = 0;
     while i < pattern.len() {
         if text.len() <= here {
-            return Step::Stuck(here);
+            return Err(here);
         }
         if !fits_pattern(pattern[i], text[here]) {
-            return Step::Stuck(here);
+            return Err(here);
         }
         here += 1;
         i += 1;
     }
-    Step::Next(here)
+    Ok(here)
 }
 
 // How many name bytes stand at a place, counted up to 16.
@@ -89,16 +81,16 @@ pub fn name(text: &[u8], at: usize, end: u8) -> Step
 {
     let n = name_bytes(text, at);
     if n == 0 {
-        return Step::Stuck(at);
+        return Err(at);
     }
     let past = at + n;
     if text.len() <= past {
-        return Step::Stuck(past);
+        return Err(past);
     }
     if text[past] != end {
-        return Step::Stuck(past);
+        return Err(past);
     }
-    Step::Next(past + 1)
+    Ok(past + 1)
 }
 
 fn is_digit(b: u8) -> bool
@@ -142,15 +134,15 @@ fn number_rest(text: &[u8], at: usize, bound: usize, end: u8, start: usize) -> P
     while here < text.len() {
         let b = text[here];
         if b == end {
-            return Part::Next(here + 1, value);
+            return Ok((here + 1, value));
         }
         if !goes_on(value, b, bound) {
-            return Part::Stuck(here);
+            return Err(here);
         }
         value = with_digit(value, b);
         here += 1;
     }
-    Part::Stuck(here)
+    Err(here)
 }
 
 // A number below a bound, in decimal without zeros in front, and the byte after it, at a place of the text.
@@ -158,16 +150,16 @@ pub fn number(text: &[u8], at: usize, bound: u8, end: u8) -> Part
     ensures { result ≡ number_at bound end text.now at }
 {
     if text.len() <= at {
-        return Part::Stuck(at);
+        return Err(at);
     }
     let b = text[at];
     if !is_digit(b) {
-        return Part::Stuck(at);
+        return Err(at);
     }
     let value = ground::wide(b - b'0');
     let limit = ground::wide(bound);
     if limit <= value {
-        return Part::Stuck(at);
+        return Err(at);
     }
     number_rest(text, at + 1, limit, end, value)
 }

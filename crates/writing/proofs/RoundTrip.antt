@@ -1,5 +1,6 @@
 -- Document 01: "Each model has exactly one text." Reading what was written gives the model again, and writing what was read gives the text
 -- again. Assumes nothing.
+use Rattle.std.proofs.Common.{Ok, Err}
 use Prim.Native.Nat.{ℕ, zero, suc, ◌-◌}
 use mathlib.Core.Path.{◌≡◌, refl, sym, ap, ap₂, ◌∙◌, subst}
 use mathlib.Core.Bool.{Bool, cond}
@@ -11,11 +12,11 @@ use lib.ListN.{length, replicate}
 use Rattle.ground.specs.Bytes.{name_byte}
 use Rattle.ground.proofs.Truths.{differ}
 use Rattle.answers.specs.declared.Refusal.{Refusal}
-use Rattle.answers.specs.declared.Verdict.{Verdict}
+use Rattle.answers.specs.Answer.{Verdict}
 use Rattle.printing.specs.Name.{unfilled}
 use Rattle.models.specs.declared.model.Name.{Name}
 use Rattle.models.specs.declared.model.Model.{Model}
-use Rattle.models.specs.declared.model.Reading.{Reading}
+use Rattle.models.specs.Told.{Reading}
 use Rattle.models.specs.Model.{Fence, Description, FenceFormed, Formed}
 use Rattle.models.specs.Text.{text_of}
 use Rattle.models.specs.Reading.{reading}
@@ -58,7 +59,7 @@ pub written_read : (t : List ℕ) (m : Model) → reading t ≡ accepting m → 
 written_read t m e = by (told t) e
   where
     wrong : (why : Refusal) → refusing why ≡ accepting m → text_of (described m) ≡ t
-    wrong why z = let f : Verdict.Refused why ≡ Verdict.Accepted = ap (λ (r : Reading). r.verdict) z in differ (cc)
+    wrong why z = let f : Err why ≡ (Ok tt) = ap (λ (r : Reading). r.verdict) z in differ (cc)
 
     by : {r : Reading} → Told t r → r ≡ accepting m → text_of (described m) ≡ t
     by (over l) z = wrong Refusal.OverLimit z

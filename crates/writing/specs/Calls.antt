@@ -1,8 +1,8 @@
 -- The calls that read a model, or take a built-in one, and write its text: a refusal of what is read goes before that of the buffer.
 use Rattle.std.specs.Prelude.{ℕ, List}
-use Rattle.answers.specs.declared.Verdict.{Verdict}
+use Rattle.answers.specs.Answer.{Verdict}
 use Rattle.answers.specs.Given.{Given, gives, unless_refused}
-use Rattle.models.specs.declared.model.Reading.{Reading}
+use Rattle.models.specs.Told.{Reading}
 use Rattle.models.specs.Text.{text_of}
 use Rattle.models.specs.Reading.{reading}
 use Rattle.writing.specs.Writing.{described}

@@ -27,8 +27,8 @@ pub fn write_reading(r: Reading, out: &mut [u8]) -> Answer
     let verdict = r.verdict;
     let model = r.model;
     match verdict {
-        Verdict::Refused(why) => Answer::Refused(why),
-        Verdict::Accepted => write(model, out),
+        Err(why) => Err(why),
+        Ok(()) => write(model, out),
     }
 }
 

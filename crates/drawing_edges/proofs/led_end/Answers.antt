@@ -7,11 +7,11 @@ use Rattle.drawing_edges.proofs.led_end.Goals as goal
 pub led_label-requires : goal.led_label-requires
 led_label-requires c =
     let a = c.args in
-    let small = next_small _ 0 0 (omega arith) a.text.now a.at c.number.ensures c.in-Next.is in
+    let small = next_small _ 0 0 (omega arith) a.text.now a.at c.number.ensures c.in-Ok.is in
     (omega arith, omega (arith, small))
 
-pub returns-in-Stuck : goal.returns-in-Stuck
-returns-in-Stuck c = search (led_stops, rules)
+pub returns-in-Err : goal.returns-in-Err
+returns-in-Err c = search (led_stops, rules)
 
-pub returns-in-Next : goal.returns-in-Next
-returns-in-Next c = search (led_goes, rules)
+pub returns-in-Ok : goal.returns-in-Ok
+returns-in-Ok c = search (led_goes, rules)

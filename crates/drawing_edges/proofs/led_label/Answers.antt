@@ -3,8 +3,8 @@ use Rattle.drawing_edges.proofs.EdgeParts.{led_label_stops, led_label_goes}
 use borrow.Author.Rules.{rules}
 use Rattle.drawing_edges.proofs.led_label.Goals as goal
 
-pub returns-in-Stuck : goal.returns-in-Stuck
-returns-in-Stuck c = search (led_label_stops, rules)
+pub returns-in-Err : goal.returns-in-Err
+returns-in-Err c = search (led_label_stops, rules)
 
-pub returns-in-Next : goal.returns-in-Next
-returns-in-Next c = search (led_label_goes, rules)
+pub returns-in-Ok : goal.returns-in-Ok
+returns-in-Ok c = search (led_label_goes, rules)

@@ -3,8 +3,8 @@ use Rattle.drawing_edges.proofs.EdgeParts.{refused_label_stops, refused_label_go
 use borrow.Author.Rules.{rules}
 use Rattle.drawing_edges.proofs.refused_label.Goals as goal
 
-pub returns-in-Stuck : goal.returns-in-Stuck
-returns-in-Stuck c = search (refused_label_stops, rules)
+pub returns-in-Err : goal.returns-in-Err
+returns-in-Err c = search (refused_label_stops, rules)
 
-pub returns-in-Next : goal.returns-in-Next
-returns-in-Next c = search (refused_label_goes, rules)
+pub returns-in-Ok : goal.returns-in-Ok
+returns-in-Ok c = search (refused_label_goes, rules)

@@ -3,9 +3,9 @@ use Rattle.drawing_edges.proofs.EdgeParts.{last_stops, last_goes}
 use borrow.Author.Rules.{rules}
 use Rattle.drawing_edges.proofs.value_behind.Goals as goal
 
-pub returns-in-Stuck : goal.returns-in-Stuck
-returns-in-Stuck c =
-    last_stops _ c.requires c.follow.ensures _ c.in-Stuck.is
+pub returns-in-Err : goal.returns-in-Err
+returns-in-Err c =
+    last_stops _ c.requires c.follow.ensures _ c.in-Err.is
 
-pub returns-in-Next : goal.returns-in-Next
-returns-in-Next c = search (last_goes, rules)
+pub returns-in-Ok : goal.returns-in-Ok
+returns-in-Ok c = search (last_goes, rules)

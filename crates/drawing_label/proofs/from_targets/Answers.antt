@@ -10,31 +10,31 @@ use Rattle.drawing_label.proofs.Words.{word_found, word_stuck, number_found, num
 use Rattle.drawing_label.proofs.Labels.{some_end, unique_targets}
 use Rattle.drawing_label.proofs.from_targets.Goals as goal
 
-pub returns-in-Stuck : goal.returns-in-Stuck
-returns-in-Stuck c =
+pub returns-in-Err : goal.returns-in-Err
+returns-in-Err c =
     let a = c.args in
     let t : List ℕ = a.text.now in
     let upstream : List ℕ = name_from t a.upstream in
     let target : List ℕ = name_from t a.target in
     then_stops (Numbered 17 34) (LabelEnd upstream target a.way a.ups) t a.at (some_end upstream target a.way a.ups)
-    (number_stuck 17 34 (omega arith) t a.at c.number.ensures c.in-Stuck.is)
+    (number_stuck 17 34 (omega arith) t a.at c.number.ensures c.in-Err.is)
 
-pub returns-in-Stuck-follow : goal.returns-in-Stuck-follow
-returns-in-Stuck-follow c =
+pub returns-in-Err-follow : goal.returns-in-Err-follow
+returns-in-Err-follow c =
     let a = c.args in
     let t : List ℕ = a.text.now in
     let upstream : List ℕ = name_from t a.upstream in
     let target : List ℕ = name_from t a.target in
     then_goes (Numbered 17 34) (LabelEnd upstream target a.way a.ups) t a.at unique_targets
-    (number_found 17 34 (omega arith) t a.at c.number.ensures c.in-Next.is)
-    (through_stopped _ (Word (bytes ";\n")) t _ (word_stuck (bytes ";\n") t _ tt c.follow.ensures c.in-Stuck-follow.is))
+    (number_found 17 34 (omega arith) t a.at c.number.ensures c.in-Ok.is)
+    (through_stopped _ (Word (bytes ";\n")) t _ (word_stuck (bytes ";\n") t _ tt c.follow.ensures c.in-Err-follow.is))
 
-pub returns-in-Next-follow : goal.returns-in-Next-follow
-returns-in-Next-follow c =
+pub returns-in-Ok-follow : goal.returns-in-Ok-follow
+returns-in-Ok-follow c =
     let a = c.args in
     let t : List ℕ = a.text.now in
     let upstream : List ℕ = name_from t a.upstream in
     let target : List ℕ = name_from t a.target in
     then_goes (Numbered 17 34) (LabelEnd upstream target a.way a.ups) t a.at unique_targets
-    (number_found 17 34 (omega arith) t a.at c.number.ensures c.in-Next.is)
-    (through_took _ (Word (bytes ";\n")) t _ (word_found (bytes ";\n") t _ tt c.follow.ensures c.in-Next-follow.is))
+    (number_found 17 34 (omega arith) t a.at c.number.ensures c.in-Ok.is)
+    (through_took _ (Word (bytes ";\n")) t _ (word_found (bytes ";\n") t _ tt c.follow.ensures c.in-Ok-follow.is))

@@ -9,20 +9,20 @@ use Rattle.drawing_label.proofs.Words.{number_found, number_stuck}
 use Rattle.drawing_label.proofs.Labels.{some_targets, unique_ups}
 use Rattle.drawing_label.proofs.from_ups.Goals as goal
 
-pub returns-in-Stuck : goal.returns-in-Stuck
-returns-in-Stuck c =
+pub returns-in-Err : goal.returns-in-Err
+returns-in-Err c =
     let a = c.args in
     let t : List ℕ = a.text.now in
     let upstream : List ℕ = name_from t a.upstream in
     let target : List ℕ = name_from t a.target in
     then_stops (Numbered 17 32) (FromTargets upstream target a.way) t a.at (some_targets upstream target a.way)
-    (number_stuck 17 32 (omega arith) t a.at c.number.ensures c.in-Stuck.is)
+    (number_stuck 17 32 (omega arith) t a.at c.number.ensures c.in-Err.is)
 
-pub returns-in-Next : goal.returns-in-Next
-returns-in-Next c =
+pub returns-in-Ok : goal.returns-in-Ok
+returns-in-Ok c =
     let a = c.args in
     let t : List ℕ = a.text.now in
     let upstream : List ℕ = name_from t a.upstream in
     let target : List ℕ = name_from t a.target in
     then_goes (Numbered 17 32) (FromTargets upstream target a.way) t a.at unique_ups
-    (number_found 17 32 (omega arith) t a.at c.number.ensures c.in-Next.is) c.from_targets.ensures
+    (number_found 17 32 (omega arith) t a.at c.number.ensures c.in-Ok.is) c.from_targets.ensures

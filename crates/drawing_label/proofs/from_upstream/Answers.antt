@@ -8,16 +8,16 @@ use Rattle.drawing_label.proofs.Words.{name_found, name_stuck}
 use Rattle.drawing_label.proofs.Labels.{some_target, unique_blank}
 use Rattle.drawing_label.proofs.from_upstream.Goals as goal
 
-pub returns-in-Stuck : goal.returns-in-Stuck
-returns-in-Stuck c =
+pub returns-in-Err : goal.returns-in-Err
+returns-in-Err c =
     let a = c.args in
     let t : List ℕ = a.text.now in
     then_stops (Named 32) FromTarget t a.at some_target
-    (name_stuck 32 (λ no. no) t a.at c.name.ensures c.in-Stuck.is)
+    (name_stuck 32 (λ no. no) t a.at c.name.ensures c.in-Err.is)
 
-pub returns-in-Next : goal.returns-in-Next
-returns-in-Next c =
+pub returns-in-Ok : goal.returns-in-Ok
+returns-in-Ok c =
     let a = c.args in
     let t : List ℕ = a.text.now in
     then_goes (Named 32) FromTarget t a.at unique_blank
-    (name_found 32 (λ no. no) t a.at c.name.ensures c.in-Next.is) c.from_target.ensures
+    (name_found 32 (λ no. no) t a.at c.name.ensures c.in-Ok.is) c.from_target.ensures

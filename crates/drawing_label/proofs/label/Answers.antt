@@ -1,4 +1,5 @@
 -- `label` meets its contract: a name is what stands in its field before the zeros. Assumes nothing.
+use Rattle.std.proofs.Common.{Result}
 use Prim.Native.Nat.{ℕ, zero-le}
 use mathlib.Core.Path.{◌≡◌, refl, sym, ap, ap₂, subst, ◌∙◌}
 use mathlib.Core.List.{List}
@@ -6,7 +7,6 @@ use lib.ListN.{replicate}
 use Rattle.texts.specs.Telling.{took, Finds}
 use Rattle.printing.specs.Name.{unfilled}
 use Rattle.drawing_label.specs.declared.Places.{Places}
-use Rattle.drawing_label.specs.declared.PlacesRead.{PlacesRead}
 use Rattle.drawing_label.specs.Label.{Label, LabelPart, name_from, field, places_told, places_taken, Fielded}
 use Rattle.drawing_label.proofs.Fields.{unfilled_from}
 use Rattle.drawing_label.proofs.Labels.{told_formed}
@@ -30,19 +30,19 @@ no_name : Fielded (replicate 16 0)
 unfolding unfilled
 no_name = refl
 
-pub returns-in-Stuck : goal.returns-in-Stuck
-returns-in-Stuck c =
+pub returns-in-Err : goal.returns-in-Err
+returns-in-Err c =
     let t : List ℕ = c.args.text.now in (
-      subst (λ (r : PlacesRead). Finds LabelPart t 0 (places_taken t r)) c.in-Stuck.is c.label_places.ensures,
+      subst (λ (r : Result Places ℕ). Finds LabelPart t 0 (places_taken t r)) c.in-Err.is c.label_places.ensures,
       record { way = zero-le; ups = zero-le; targets = zero-le; upstream = no_name; target = no_name; bare = refl },
     )
 
-pub returns-in-Read : goal.returns-in-Read
+pub returns-in-Ok : goal.returns-in-Ok
 unfolding with_names
-returns-in-Read c =
-    let l = c.in-Read.l in
+returns-in-Ok c =
+    let l = c.in-Ok.l in
     let t : List ℕ = c.args.text.now in
-    let told = subst (λ (r : PlacesRead). Finds LabelPart t 0 (places_taken t r)) c.in-Read.is c.label_places.ensures in
+    let told = subst (λ (r : Result Places ℕ). Finds LabelPart t 0 (places_taken t r)) c.in-Ok.is c.label_places.ensures in
     let formed = told_formed told in (
       subst (λ (x : Label). Finds LabelPart t 0 (took l.next x)) (names-told t l c.name_field-upstream.ensures c.name_field-target.ensures) told,
       record {

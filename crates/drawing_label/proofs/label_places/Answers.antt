@@ -12,14 +12,14 @@ use Rattle.drawing_label.proofs.label_places.Goals as goal
 abbrev opening : List ℕ
 opening = bytes "digraph shim {\nlabel=\""
 
-pub returns-in-Stuck : goal.returns-in-Stuck
-returns-in-Stuck c =
+pub returns-in-Err : goal.returns-in-Err
+returns-in-Err c =
     let t : List ℕ = c.args.text.now in
     then_stops (Word opening) (λ _. FromUpstream) t 0 (λ _. some_upstream)
-    (word_stuck opening t 0 tt c.follow.ensures c.in-Stuck.is)
+    (word_stuck opening t 0 tt c.follow.ensures c.in-Err.is)
 
-pub returns-in-Next : goal.returns-in-Next
-returns-in-Next c =
+pub returns-in-Ok : goal.returns-in-Ok
+returns-in-Ok c =
     let t : List ℕ = c.args.text.now in
     then_goes (Word opening) (λ _. FromUpstream) t 0 (unique_word opening)
-    (word_found opening t 0 tt c.follow.ensures c.in-Next.is) c.from_upstream.ensures
+    (word_found opening t 0 tt c.follow.ensures c.in-Ok.is) c.from_upstream.ensures

@@ -9,34 +9,34 @@ use Rattle.drawing_label.proofs.Words.{word_found, word_stuck}
 use Rattle.drawing_label.proofs.Labels.{sparing_here, full_here}
 use Rattle.drawing_label.proofs.way_part.Goals as goal
 
-pub returns-in-Stuck : goal.returns-in-Stuck
-returns-in-Stuck c =
+pub returns-in-Err : goal.returns-in-Err
+returns-in-Err c =
     let a = c.args in
     let t : List ℕ = a.text.now in
     sparing_here t a.at (sym c.byte_at.ensures ∙ c.if-byte_at-eq115.true)
     (through_stopped (λ _. 0) (Word (bytes "sparing ")) t a.at
-    (word_stuck (bytes "sparing ") t a.at tt c.follow.ensures c.in-Stuck.is))
+    (word_stuck (bytes "sparing ") t a.at tt c.follow.ensures c.in-Err.is))
 
-pub returns-in-Next : goal.returns-in-Next
-returns-in-Next c =
+pub returns-in-Ok : goal.returns-in-Ok
+returns-in-Ok c =
     let a = c.args in
     let t : List ℕ = a.text.now in
     sparing_here t a.at (sym c.byte_at.ensures ∙ c.if-byte_at-eq115.true)
     (through_took (λ _. 0) (Word (bytes "sparing ")) t a.at
-    (word_found (bytes "sparing ") t a.at tt c.follow.ensures c.in-Next.is))
+    (word_found (bytes "sparing ") t a.at tt c.follow.ensures c.in-Ok.is))
 
-pub returns-in-Stuck-follow : goal.returns-in-Stuck-follow
-returns-in-Stuck-follow c =
+pub returns-in-Err-follow : goal.returns-in-Err-follow
+returns-in-Err-follow c =
     let a = c.args in
     let t : List ℕ = a.text.now in
     full_here t a.at (λ is. c.if-byte_at-eq115.false (c.byte_at.ensures ∙ is))
     (through_stopped (λ _. 1) (Word (bytes "full ")) t a.at
-    (word_stuck (bytes "full ") t a.at tt c.follow-2.ensures c.in-Stuck-follow.is))
+    (word_stuck (bytes "full ") t a.at tt c.follow-2.ensures c.in-Err-follow.is))
 
-pub returns-in-Next-follow : goal.returns-in-Next-follow
-returns-in-Next-follow c =
+pub returns-in-Ok-follow : goal.returns-in-Ok-follow
+returns-in-Ok-follow c =
     let a = c.args in
     let t : List ℕ = a.text.now in
     full_here t a.at (λ is. c.if-byte_at-eq115.false (c.byte_at.ensures ∙ is))
     (through_took (λ _. 1) (Word (bytes "full ")) t a.at
-    (word_found (bytes "full ") t a.at tt c.follow-2.ensures c.in-Next-follow.is))
+    (word_found (bytes "full ") t a.at tt c.follow-2.ensures c.in-Ok-follow.is))

@@ -32,18 +32,18 @@ returns-then-byte_at-eq48 c =
     let zero = sym c.byte_at.ensures ∙ c.if-byte_at-eq48.true in
     l.invariant.2 _ (nodes_over t l.here l.number (255 - l.number) l.invariant.0 zero (end_found t l.here l.number zero))
 
-pub returns-in-Stuck : goal.returns-in-Stuck
-returns-in-Stuck c =
+pub returns-in-Err : goal.returns-in-Err
+returns-in-Err c =
     let l = c.loop-number in
     let t = c.args.text.now in
     l.invariant.2 _ (stop t l.here l.number c.loop-number-test.true (λ is. c.if-byte_at-eq48.false (c.byte_at.ensures ∙ is))
-    (word_stuck (node_line l.number) t l.here (node_word l.number) c.follow_decimal.ensures c.in-Stuck.is))
+    (word_stuck (node_line l.number) t l.here (node_word l.number) c.follow_decimal.ensures c.in-Err.is))
 
 pub loop-number-preserved : goal.loop-number-preserved
 loop-number-preserved c =
     let l = c.loop-number in
     let t = c.args.text.now in
-    let word = word_found (node_line l.number) t l.here (node_word l.number) c.follow_decimal.ensures c.in-Next.is in (
+    let word = word_found (node_line l.number) t l.here (node_word l.number) c.follow_decimal.ensures c.in-Ok.is in (
       omega arith,
       omega arith,
       (λ r h. l.invariant.2 r (more t l.here l.number c.loop-number-test.true

@@ -2,18 +2,18 @@
 use Rattle.drawing_reader.proofs.Reading.{label_stop, label_go}
 use Rattle.drawing_reader.proofs.read.Goals as goal
 
-pub returns-in-Stuck : goal.returns-in-Stuck
-returns-in-Stuck c =
+pub returns-in-Err : goal.returns-in-Err
+returns-in-Err c =
     let t = c.args.text.now in (
-      label_stop t c.label-label.result c.label-label.ensures.0 c.in-Stuck.is _ _,
+      label_stop t c.label-label.result c.label-label.ensures.0 c.in-Err.is _ _,
       c.header_for.ensures.2,
       c.header_for.ensures.3,
     )
 
-pub returns-in-Next : goal.returns-in-Next
-returns-in-Next c =
+pub returns-in-Ok : goal.returns-in-Ok
+returns-in-Ok c =
     let t = c.args.text.now in (
-      label_go t c.label-label.result c.label-label.ensures.0 c.in-Next.is _ _ _
+      label_go t c.label-label.result c.label-label.ensures.0 c.in-Ok.is _ _ _
           c.read_nodes.ensures.0,
       c.read_nodes.ensures.1,
       c.read_nodes.ensures.2,

@@ -11,18 +11,18 @@ returns-then-text-gt-LIMIT c = record { given = refuses _; right = over (search 
 
 pub returns-then-end-text : goal.returns-then-end-text
 returns-then-end-text c =
-    let no = read_passed c.args.text.now c.read-drawing.result.header _ c.read-drawing.ensures.0 c.in-Next.is
+    let no = read_passed c.args.text.now c.read-drawing.result.header _ c.read-drawing.ensures.0 c.in-Ok.is
     c.if-end-text.true in
     record { given = refuses _; right = departs (search rules) no.0 no.1; delivered = delivers_refusal _ }
 
-pub returns-in-Stuck : goal.returns-in-Stuck
-returns-in-Stuck c =
-    let no = read_stuck c.args.text.now c.read-drawing.result.header _ c.read-drawing.ensures.0 c.in-Stuck.is in
+pub returns-in-Err : goal.returns-in-Err
+returns-in-Err c =
+    let no = read_stuck c.args.text.now c.read-drawing.result.header _ c.read-drawing.ensures.0 c.in-Err.is in
     record { given = refuses _; right = departs (search rules) no.0 no.1; delivered = delivers_refusal _ }
 
 pub returns-else-end-text : goal.returns-else-end-text
 returns-else-end-text c =
-    let is = read_whole c.args.text.now c.read-drawing.result.header _ c.read-drawing.ensures.0 c.in-Next.is
+    let is = read_whole c.args.text.now c.read-drawing.result.header _ c.read-drawing.ensures.0 c.in-Ok.is
     c.if-end-text.false
     c.read-drawing.ensures.1 c.read-drawing.ensures.2 c.wide-n.ensures.0 in
     record { given = gives _ 0 0; right = undrawn (search rules) is.0 is.1; delivered = c.write.ensures }

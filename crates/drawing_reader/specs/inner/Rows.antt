@@ -1,10 +1,10 @@
 -- The edges of a drawing, as parts of its text: the edges of a state tell the words of its row; all of them tell the rows. What a reader has read
 -- of them into rows.
-use Rattle.std.specs.Prelude.{ℕ, zero, suc, ◌+◌, ◌*◌, ◌/◌, ◌%◌, ◌≤◌, ◌<◌, ◌≡◌, List, [], ◌∷◌, ◌++◌, length, get_or}
+use Rattle.std.specs.Prelude.{ℕ, zero, suc, ◌+◌, ◌*◌, ◌/◌, ◌%◌, ◌≤◌, ◌<◌, ◌≡◌, List, [], ◌∷◌, ◌++◌, length, get_or, Ok, Err}
 use Rattle.ground.specs.Bytes.{at}
 use Rattle.operations.specs.Alphabet.{stride}
 use Rattle.printing.specs.Turns.{in_turn}
-use Rattle.texts.specs.declared.Step.{Step}
+use Rattle.texts.specs.Step.{Step}
 use Rattle.texts.specs.Language.{Telling}
 use Rattle.texts.specs.Telling.{Items, Taken, took, stopped, Finds}
 use Rattle.image.specs.Image.{word}
@@ -39,12 +39,12 @@ pub record RowsAre (sh : Shape) (values : List (List ℕ)) (t : List ℕ) : Type
 
 -- what a step over the edges of a state has taken, and what one over the edges of so many states has, by the rows after it
 abbrev pub row_taken : ℕ → List ℕ → ℕ → Step → Taken (List ℕ)
-row_taken letters rows state (Step.Next p) = took p (row_told letters rows state)
-row_taken letters rows state (Step.Stuck p) = stopped p
+row_taken letters rows state (Ok p) = took p (row_told letters rows state)
+row_taken letters rows state (Err p) = stopped p
 
 abbrev pub rows_taken : ℕ → List ℕ → ℕ → Step → Taken (List (List ℕ))
-rows_taken letters rows states (Step.Next p) = took p (rows_told letters rows states)
-rows_taken letters rows states (Step.Stuck p) = stopped p
+rows_taken letters rows states (Ok p) = took p (rows_told letters rows states)
+rows_taken letters rows states (Err p) = stopped p
 
 -- a word of the first n states and of a letter of the machine
 pub record Within (letters n i : ℕ) : Type 0 where

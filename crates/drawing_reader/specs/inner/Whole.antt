@@ -1,9 +1,9 @@
 -- The whole of a drawing as one part of a text: the label, the nodes up to the `0` of the first edge, and the edges from that `0` on. That its
 -- texts are the drawings is proved in proofs/Whole.
-use Rattle.std.specs.Prelude.{ℕ, ◌*◌, ◌/◌, ◌%◌, ◌≡◌, List, [], length, get_or}
+use Rattle.std.specs.Prelude.{ℕ, ◌*◌, ◌/◌, ◌%◌, ◌≡◌, List, [], length, get_or, Ok, Err}
 use Rattle.ground.specs.Bytes.{at, bytes}
 use Rattle.operations.specs.Alphabet.{letters_with, stride}
-use Rattle.texts.specs.declared.Step.{Step}
+use Rattle.texts.specs.Step.{Step}
 use Rattle.texts.specs.Language.{Telling}
 use Rattle.texts.specs.Telling.{Then, Through, After, Word, Taken, took, stopped, Finds}
 use Rattle.image.specs.declared.machine.Header.{Header}
@@ -55,8 +55,8 @@ drawn_for h rows = record { label = label_for h; states = h.states; words = rows
 
 -- what a step over a drawing has taken, by the header and the rows after it
 abbrev pub drawn_taken : Header → List ℕ → Step → Taken Drawn
-drawn_taken h rows (Step.Next p) = took p (drawn_for h rows)
-drawn_taken h rows (Step.Stuck p) = stopped p
+drawn_taken h rows (Ok p) = took p (drawn_for h rows)
+drawn_taken h rows (Err p) = stopped p
 
 -- a part of a drawing read into rows: only the words of states and letters that the machine has change
 pub record ReadsDrawn (L : Telling Drawn) (t : List ℕ) (start : ℕ) (rows : List ℕ) (h : Header) (r : Step) (rows' : List ℕ) : Type 0 where

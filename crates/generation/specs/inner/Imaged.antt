@@ -1,9 +1,8 @@
 -- What a call has done that gives an image. The theorems of the call are stated with it.
-use Rattle.std.specs.Prelude.{ℕ, ◌≡◌, List}
+use Rattle.std.specs.Prelude.{ℕ, ◌≡◌, List, Ok}
 use Rattle.shims.specs.declared.Models.{Models}
 use Rattle.shims.specs.Opening.{way_of, Opens}
 use Rattle.machine.specs.declared.machine.Machine.{Machine}
-use Rattle.machine.specs.declared.machine.Outcome.{Outcome}
 use Rattle.making.specs.Made.{MachineMade}
 use Rattle.image.specs.Image.{image_of}
 use Rattle.generation.specs.Generating.{header_for, blank}
@@ -14,5 +13,5 @@ pub record Imaged (number : ℕ) (upstream target image : List ℕ) : Type 0 whe
   pub opens : Opens (way_of number) upstream target models
   pub machine : Machine
   pub rows : List ℕ
-  pub made : MachineMade models blank (Outcome.Made machine) rows
+  pub made : MachineMade models blank (Ok machine) rows
   pub image_is : image ≡ image_of (header_for machine models) rows

@@ -9,8 +9,8 @@ returns-in-Refused c =
     delivers_as (by_verdict a.image.now a.start a.stream.now _ _ c.examine-verdict.ensures c.in-Refused.is)
     (delivers_refusal a.out.now)
 
-pub returns-in-Accepted : goal.returns-in-Accepted
-returns-in-Accepted c =
+pub returns-in-Ok : goal.returns-in-Ok
+returns-in-Ok c =
     let a = c.args in
-    delivers_as (by_verdict a.image.now a.start a.stream.now _ _ c.examine-verdict.ensures c.in-Accepted.is)
+    delivers_as (by_verdict a.image.now a.start a.stream.now _ _ c.examine-verdict.ensures c.in-Ok.is)
     c.run_accepted.ensures

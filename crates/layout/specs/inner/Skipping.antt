@@ -1,11 +1,10 @@
 -- The search for the lowest barred byte goes past bytes that cannot be barred.
-use Rattle.std.specs.Prelude.{ℕ, ◌-◌, ◌≤◌, ◌≡◌, List, length}
+use Rattle.std.specs.Prelude.{ℕ, ◌-◌, ◌≤◌, ◌≡◌, List, length, Option}
 use Rattle.ground.specs.Lowest.{lowest}
-use Rattle.ground.specs.declared.Found.{Found}
 use Rattle.barred.specs.Barred.{barred}
 
 -- the lowest barred byte from byte i on
-abbrev pub barred_from : List ℕ → ℕ → Found
+abbrev pub barred_from : List ℕ → ℕ → Option ℕ
 barred_from image i = lowest (barred image) i (length image - i)
 
 -- nothing barred stands from one byte up to another, so that the lowest from the one is the lowest from the other

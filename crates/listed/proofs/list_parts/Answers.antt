@@ -7,7 +7,7 @@ use Rattle.listed.proofs.list_parts.Goals as goal
 pub list_models-requires : goal.list_models-requires
 list_models-requires c =
     let a = c.args in
-    sixteen_opened a.way a.upstream.now a.target.now c.read_texts-opening.ensures c.in-Accepted.is
+    sixteen_opened a.way a.upstream.now a.target.now c.read_texts-opening.ensures c.in-Ok.is
 
 pub returns-in-Refused : goal.returns-in-Refused
 returns-in-Refused c = search (given_refused, rules)

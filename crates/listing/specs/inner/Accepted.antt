@@ -1,7 +1,6 @@
 -- What a call has done that gives a listing; the theorems of the call are stated with this.
-use Rattle.std.specs.Prelude.{ℕ, ◌≤◌, ◌≡◌, List, length}
+use Rattle.std.specs.Prelude.{ℕ, ◌≤◌, ◌≡◌, List, length, Some}
 use Rattle.std.proofs.Math.Option.{some}
-use Rattle.shims.specs.declared.WayRead.{WayRead}
 use Rattle.shims.specs.declared.Models.{Models}
 use Rattle.shims.specs.Opening.{Opens}
 use Rattle.operations.specs.Operation.{fence_bytes}
@@ -18,7 +17,7 @@ pub record AcceptedInput (input text : List ℕ) (fences state : ℕ) : Type 0 w
   pub parts : Parts
   pub shaped : shape input ≡ some parts
   pub models : Models
-  pub opens : Opens (WayRead.Is parts.way) parts.upstream parts.target models
+  pub opens : Opens (Some parts.way) parts.upstream parts.target models
   pub output : List ℕ
   pub ran : run_given models parts.stream ≡ puts output
   pub states : ℕ

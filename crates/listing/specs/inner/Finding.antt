@@ -1,7 +1,6 @@
 -- How the parts of an input are found, by places.
-use Rattle.std.specs.Prelude.{ℕ, ◌-◌, ◌<◌, ◌≤◌, ◌≡◌, List, [], ◌∷◌, Bool, true, false, length, take, drop}
+use Rattle.std.specs.Prelude.{ℕ, ◌-◌, ◌<◌, ◌≤◌, ◌≡◌, List, [], ◌∷◌, Bool, true, false, length, take, drop, Option, Some, None}
 use Rattle.std.proofs.Math.Option.{none, some as one}
-use Rattle.ground.specs.declared.Found.{Found}
 use Rattle.rule.specs.declared.way.Way.{Way}
 use Rattle.listing.specs.declared.shape.Looked.{Looked}
 use Rattle.listing.specs.declared.shape.Tail.{Tail}
@@ -19,9 +18,9 @@ pub record NoLine (t : List ℕ) : Type 0 where
   pub no_ending : ending_of (lines t) ≡ none
   pub no_run : (w : List ℕ) → ending_of (w ∷ lines t) ≡ none
 
-abbrev pub LineEnd : List ℕ → Found → Type 0
-LineEnd t (Found.At n) = LineOf t n
-LineEnd t Found.Nowhere = NoLine t
+abbrev pub LineEnd : List ℕ → Option ℕ → Type 0
+LineEnd t (Some n) = LineOf t n
+LineEnd t None = NoLine t
 
 -- the text ends with n bytes
 pub record TextOf (t : List ℕ) (n : ℕ) : Type 0 where
@@ -39,9 +38,9 @@ Looks t (Looked.End n) = TextOf t n
 Looks t (Looked.More n) = GoesOn t n
 Looks t Looked.Nothing = through (lines t) ≡ none
 
-abbrev pub TextEnd : List ℕ → Found → Type 0
-TextEnd t (Found.At n) = TextOf t n
-TextEnd t Found.Nowhere = through (lines t) ≡ none
+abbrev pub TextEnd : List ℕ → Option ℕ → Type 0
+TextEnd t (Some n) = TextOf t n
+TextEnd t None = through (lines t) ≡ none
 
 -- the way, and where the stream begins; it ends before the last byte
 pub record EndingOf (t : List ℕ) (way : Way) (at : ℕ) : Type 0 where

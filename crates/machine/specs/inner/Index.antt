@@ -1,6 +1,5 @@
 -- Pairs of numbers, found again by their bucket. A link is one more than a place, or 0 where the chain ends.
-use Rattle.std.specs.Prelude.{ℕ, ◌+◌, ◌*◌, ◌%◌, ◌≤◌, ◌<◌, ◌≡◌, Bool, true, false, List, length, get_or}
-use Rattle.ground.specs.declared.Found.{Found}
+use Rattle.std.specs.Prelude.{ℕ, ◌+◌, ◌*◌, ◌%◌, ◌≤◌, ◌<◌, ◌≡◌, Bool, true, false, List, length, get_or, Option, Some, None}
 
 abbrev pub capacity : ℕ
 capacity = 4096
@@ -56,9 +55,9 @@ abbrev pub Absent : List ℕ → ℕ → ℕ → ℕ → Type 0
 Absent pairs count need low = (p : ℕ) → p < count → Pair pairs need low p → ⊥
 
 -- what a search finds: the pair's place, or that there is none
-pub data FoundAt (pairs : List ℕ) (count need low : ℕ) (r : Found) : Type 0 where
-  there : (p : ℕ) → r ≡ Found.At p → p < count → Pair pairs need low p → FoundAt pairs count need low r
-  nowhere : r ≡ Found.Nowhere → Absent pairs count need low → FoundAt pairs count need low r
+pub data FoundAt (pairs : List ℕ) (count need low : ℕ) (r : Option ℕ) : Type 0 where
+  there : (p : ℕ) → r ≡ Some p → p < count → Pair pairs need low p → FoundAt pairs count need low r
+  nowhere : r ≡ None → Absent pairs count need low → FoundAt pairs count need low r
 
 -- the pair stands at the next place, and every other as it was
 pub record Pushed (pairs : List ℕ) (count need low : ℕ) (pairs' links : List ℕ) : Type 0 where

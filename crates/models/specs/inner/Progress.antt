@@ -1,12 +1,11 @@
 -- A model in the making, and how the reader goes on.
-use Rattle.std.specs.Prelude.{ℕ, ◌+◌, Bool, false, ◌||◌, cond, List, [], ◌∷◌, eqb, take, set}
+use Rattle.std.specs.Prelude.{ℕ, ◌+◌, Bool, false, ◌||◌, cond, List, [], ◌∷◌, eqb, take, set, Result, Ok, Err}
 use Rattle.ground.specs.Bytes.{same_bytes}
 use Rattle.answers.specs.declared.Refusal.{Refusal}
 use Rattle.tables.specs.declared.table.Table.{Table}
 use Rattle.models.specs.declared.scan.Line.{Line}
-use Rattle.models.specs.declared.scan.LineRead.{LineRead}
 use Rattle.models.specs.declared.model.Name.{Name}
-use Rattle.models.specs.declared.model.Reading.{Reading}
+use Rattle.models.specs.Told.{Reading}
 use Rattle.models.specs.declared.reader.Progress.{Progress}
 use Rattle.models.specs.Told.{bare, accepting, refusing}
 
@@ -15,9 +14,9 @@ abbrev pub formless : ℕ → Reading
 formless at = refusing (Refusal.NotOfTheForm at)
 
 -- go on with the line, or refuse
-abbrev pub on_line : LineRead → (Line → Reading) → Reading
-on_line (LineRead.Read line) more = more line
-on_line (LineRead.Stuck at) more = formless at
+abbrev pub on_line : Result Line ℕ → (Line → Reading) → Reading
+on_line (Ok line) more = more line
+on_line (Err at) more = formless at
 
 -- the name stands among others
 abbrev pub among : Name → List Name → Bool

@@ -1,4 +1,5 @@
 -- `follow_decimal` meets its contract: the digits stand in front of the array, and the word is followed behind them. Assumes nothing.
+use Rattle.std.proofs.Common.{Err}
 use Prim.Native.Nat.{ℕ, ◌<◌, ◌^◌}
 use mathlib.Core.Path.{refl, sym, ap, ◌∙◌}
 use mathlib.Core.List.{List}
@@ -6,7 +7,7 @@ use lib.ListN.{replicate}
 use native.Mathlib.Nat.{lt_trans}
 use native.Mathlib.Omega.{arith}
 use lib.Dec.{lit<}
-use Rattle.texts.specs.declared.Step.{Step}
+use Rattle.texts.specs.Step.{Step}
 use Rattle.texts.specs.Pattern.{follow_at}
 use Rattle.texts.proofs.Language.{step_stuck, step_next}
 use Rattle.printing.specs.Decimal.{decimal}
@@ -27,18 +28,18 @@ slice_bounds-digits-end c = (fronts c.args.number (omega (arith, c.ranges.number
 pub slice_bounds-follow-end : goal.slice_bounds-follow-end
 slice_bounds-follow-end c = (fronts c.args.number (omega (arith, c.ranges.number)) c.put_decimal-n.ensures).count
 
-pub returns-in-Stuck : goal.returns-in-Stuck
-returns-in-Stuck c =
+pub returns-in-Err : goal.returns-in-Err
+returns-in-Err c =
     let a = c.args in
     let f = fronts a.number (omega (arith, c.ranges.number)) c.put_decimal-n.ensures in
-    step_stuck Step.Stuck (follow_at a.after.now a.text.now)
-    (c.follow.ensures ∙ ap (λ (w : List ℕ). follow_at w a.text.now a.at) f.bytes) c.in-Stuck.is refl
+    step_stuck Err (follow_at a.after.now a.text.now)
+    (c.follow.ensures ∙ ap (λ (w : List ℕ). follow_at w a.text.now a.at) f.bytes) c.in-Err.is refl
     ∙ sym (follow_then (decimal a.number) a.after.now a.text.now a.at)
 
-pub returns-in-Next : goal.returns-in-Next
-returns-in-Next c =
+pub returns-in-Ok : goal.returns-in-Ok
+returns-in-Ok c =
     let a = c.args in
     let f = fronts a.number (omega (arith, c.ranges.number)) c.put_decimal-n.ensures in
-    step_next Step.Stuck (follow_at a.after.now a.text.now)
-    (c.follow.ensures ∙ ap (λ (w : List ℕ). follow_at w a.text.now a.at) f.bytes) c.in-Next.is c.follow-in-Next.ensures
+    step_next Err (follow_at a.after.now a.text.now)
+    (c.follow.ensures ∙ ap (λ (w : List ℕ). follow_at w a.text.now a.at) f.bytes) c.in-Ok.is c.follow-in-Ok.ensures
     ∙ sym (follow_then (decimal a.number) a.after.now a.text.now a.at)

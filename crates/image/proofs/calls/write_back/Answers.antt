@@ -8,8 +8,8 @@ returns-in-Refused c =
     back_refused a.image.now (λ i. (c.type_inv.image i).fits) _ _ c.read-reading.ensures _ a.out.now
     c.in-Refused.is
 
-pub returns-in-Accepted : goal.returns-in-Accepted
-returns-in-Accepted c =
+pub returns-in-Ok : goal.returns-in-Ok
+returns-in-Ok c =
     let a = c.args in
     back_accepted a.image.now (λ i. (c.type_inv.image i).fits) _ _ c.read-reading.ensures
-    c.in-Accepted.is _ a.out.now _ _ c.wide-n.ensures.0 c.write.ensures
+    c.in-Ok.is _ a.out.now _ _ c.wide-n.ensures.0 c.write.ensures

@@ -1,9 +1,10 @@
 use Prim.Native.Nat.{◌-◌}
-use mathlib.Core.Path.{◌≡◌, sym, ap, ◌∙◌}
+use mathlib.Core.Path.{◌≡◌, refl, sym, ap, ◌∙◌}
 use native.Mathlib.Omega.{arith}
+use borrow.Author.Rules.{rules}
 use lib.ListN.{get_or}
 use Rattle.models.specs.declared.scan.Line.{Line}
-use Rattle.models.specs.declared.model.Reading.{Reading}
+use Rattle.models.specs.Told.{Reading}
 use Rattle.models.specs.declared.reader.Progress.{Progress}
 use Rattle.models.specs.Reading.{table_in, fence_from, lines_from}
 use Rattle.models.proofs.Steps.{line_stuck, line_next, lines_last, lines_end, lines_fence, fence_name, fence_stored}
@@ -16,27 +17,25 @@ returns-then-byte_at-ne102 c =
     let other : get_or t l.here 0 ≡ 102 → ⊥ = λ e. c.if-byte_at-ne102.true (c.byte_at.ensures ∙ e) in
     c.end.ensures ∙ sym (l.invariant.1 ∙ lines_end t (record { model = l.model; repeat = l.repeat }) l.here l.left other)
 
-pub returns-in-Stuck : goal.returns-in-Stuck
-returns-in-Stuck c =
+pub returns-in_err-line : goal.returns-in_err-line
+returns-in_err-line c =
     let l = c.loop-left in
     let p : Progress = record { model = l.model; repeat = l.repeat } in
     let t = c.args.text.now in
-    let next : Line → Reading = λ line. lines_from (l.left - 1) t (fence_from t p line) line.next in
     let begins = sym c.byte_at.ensures ∙ c.if-byte_at-ne102.false in
-    line_stuck next c.fence_line.ensures c.in-Stuck.is c.refuse.ensures
-    ∙ sym (l.invariant.1 ∙ lines_fence t p l.here l.left c.loop-left-test.true begins)
+    search (rules, l.invariant.1, lines_fence t p l.here l.left c.loop-left-test.true begins)
 
 pub overflow_sub-line : goal.overflow_sub-line
 overflow_sub-line c =
     let l = c.loop-left in
     let t = c.args.text.now in
-    (fence_name t c.in-Read.line l.here (sym c.fence_line.ensures ∙ c.in-Read.is)).above
+    (fence_name t c.in_ok-line.line l.here (search rules)).above
 
 pub name_in-name-requires : goal.name_in-name-requires
 name_in-name-requires c =
     let l = c.loop-left in
     let t = c.args.text.now in
-    let ends = fence_name t c.in-Read.line l.here (sym c.fence_line.ensures ∙ c.in-Read.is) in
+    let ends = fence_name t c.in_ok-line.line l.here (search rules) in
     (ends.run, ends.within)
 
 pub loop-left-preserved : goal.loop-left-preserved
@@ -44,7 +43,7 @@ loop-left-preserved c =
     let l = c.loop-left in
     let p : Progress = record { model = l.model; repeat = l.repeat } in
     let t = c.args.text.now in
-    let line = c.in-Read.line in
+    let line = c.in_ok-line.line in
     let next : Line → Reading = λ line. lines_from (l.left - 1) t (fence_from t p line) line.next in
     let table = c.table_in-table.ensures ∙ ap table_in c.rest.ensures in
     let more = fence_stored t p line c.name_in-name.ensures table c.repeat_place-repeat.ensures in
@@ -53,7 +52,7 @@ loop-left-preserved c =
       omega arith,
       l.invariant.1
           ∙ lines_fence t p l.here l.left c.loop-left-test.true begins
-          ∙ sym (line_next next c.fence_line.ensures c.in-Read.is on),
+          ∙ sym (line_next next refl (search rules) on),
     )
 
 pub returns : goal.returns
