@@ -1,9 +1,8 @@
 -- Document 01: "7 last"; "A refusal returns its number and place ..; every buffer keeps its former bytes." A call that writes comes to something to
 -- give before its buffer is looked at, and that is what it answers where the buffer has room.
-use Rattle.std.specs.Prelude.{ℕ, ◌≡◌, List, length, Ok, Err}
+use Rattle.std.specs.Prelude.{ℕ, ◌≡◌, List, length, Result, Ok, Err}
 use Rattle.answers.specs.declared.Refusal.{Refusal}
 use Rattle.answers.specs.Answer.{Answer}
-use Rattle.answers.specs.Answer.{Verdict}
 use Rattle.answers.specs.Buffer.{buffer_with, answer_with}
 
 -- bytes to write, with the fences and the end state to tell; or a refusal
@@ -11,14 +10,14 @@ pub data Given : Type 0 where
   gives : List ℕ → ℕ → ℕ → Given
   refuses : Refusal → Given
 
--- what is given unless a verdict refuses it, and the same where it is told by a property
-abbrev pub unless_refused : Verdict → Given → Given
-unless_refused (Ok tt) given = given
-unless_refused (Err why) given = refuses why
+-- what is given of what was read, unless that was refused; and the same where it is told by a property
+abbrev pub unless_refused : {A : Type 0} → Result A Refusal → (A → Given) → Given
+unless_refused (Ok a) more = more a
+unless_refused (Err why) more = refuses why
 
-abbrev pub GivenUnless : Verdict → (Given → Type 0) → Given → Type 0
-GivenUnless (Ok tt) Right g = Right g
-GivenUnless (Err why) Right g = g ≡ refuses why
+abbrev pub GivenUnless : {A : Type 0} → Result A Refusal → (A → Given → Type 0) → Given → Type 0
+GivenUnless (Ok a) More g = More a g
+GivenUnless (Err why) More g = g ≡ refuses why
 
 -- the answer where the buffer has room for so many bytes, and the buffer after it
 abbrev pub answer_of : Given → ℕ → Answer

@@ -1,5 +1,4 @@
 -- What is written of a built-in model is its text. Assumes nothing.
-use Rattle.std.proofs.Common.{Ok, Err}
 use Prim.Native.Nat.{ℕ, ◌<◌}
 use mathlib.Core.Path.{◌≡◌, refl, sym, ap, ◌∙◌}
 use mathlib.Core.List.{List, [], map}
@@ -8,13 +7,12 @@ use native.Mathlib.Decide.{dec_lt}
 use lib.ListN.{get_or, get_or-map}
 use Rattle.ground.proofs.Truths.{differ}
 use Rattle.answers.specs.declared.Refusal.{Refusal}
-use Rattle.answers.specs.Answer.{Verdict}
 use Rattle.tables.specs.Table.{table}
-use Rattle.models.specs.Told.{Reading}
+use Rattle.models.specs.declared.model.Model.{Model}
 use Rattle.models.specs.Model.{Description}
 use Rattle.models.specs.Text.{text_of}
 use Rattle.models.specs.Reading.{table_in}
-use Rattle.models.specs.Told.{held, accepting}
+use Rattle.models.specs.Told.{held, accepting, refusing}
 use Rattle.printing.specs.Name.{unfilled}
 use Rattle.writing.specs.Writing.{fences_of, described}
 use Rattle.writing.specs.Calls.{text_given, reading_given}
@@ -33,17 +31,17 @@ built_described n =
     sym (get_or-map (λ (d : Description). described (held d)) built_ins n (model "" none []))
     ∙ ap (λ (l : List Description). get_or l n (model "" none [])) all_described
 
-built_back : (n : ℕ) → built_in_reading n ≡ accepting (built_in_reading n).model
-    → text_of (described (built_in_reading n).model) ≡ text_of (built_in n)
-built_back n e = by (dec_lt 15 n)
+built_back : (n : ℕ) (m : Model) → built_in_reading n ≡ accepting m → text_of (described m) ≡ text_of (built_in n)
+built_back n m e = by (dec_lt 15 n)
   where
-    by : Dec (15 < n) → text_of (described (built_in_reading n).model) ≡ text_of (built_in n)
+    by : Dec (15 < n) → text_of (described m) ≡ text_of (built_in n)
     by (yes l) =
-        let v : Err Refusal.OutOfRange ≡ (Ok tt) = ap (λ (r : Reading). r.verdict) (out_of_range n l ∙ e) in
+        let v : refusing Refusal.OutOfRange ≡ accepting m = out_of_range n l ∙ e in
         differ (cc)
     by (no g) =
-        ap (λ (r : Reading). text_of (described r.model)) (sym (answered n (held (built_in n)) (omega arith) (sym (row_is n (omega arith)))))
-        ∙ ap text_of (built_described n)
+        let v : accepting (held (built_in n)) ≡ accepting m = answered n (held (built_in n)) (omega arith) (sym (row_is n (omega arith))) ∙ e in
+        let same : held (built_in n) ≡ m = cc in
+        ap (λ (x : Model). text_of (described x)) (sym same) ∙ ap text_of (built_described n)
 
-pub given_built : (n : ℕ) → reading_given (built_in_reading n) ≡ text_given (built_in_reading n).verdict (text_of (built_in n))
-given_built n = given_settled (built_in_reading n) _ _ (built_back n)
+pub given_built : (n : ℕ) → reading_given (built_in_reading n) ≡ text_given (built_in_reading n) (text_of (built_in n))
+given_built n = given_settled (built_in_reading n) (text_of (built_in n)) (built_back n)

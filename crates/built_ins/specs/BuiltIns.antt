@@ -71,4 +71,4 @@ built_in_reading n = cond (ltb 15 n) (refusing Refusal.OutOfRange) (accepting (h
 
 -- what the call gives that writes a built-in model's text
 abbrev pub built_in_given : ℕ → Given
-built_in_given n = text_given (built_in_reading n).verdict (text_of (built_in n))
+built_in_given n = text_given (built_in_reading n) (text_of (built_in n))

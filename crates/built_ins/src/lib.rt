@@ -7,8 +7,7 @@ ghost use Rattle.std.specs.Prelude.{◌≡◌};
 ghost use Rattle.answers.specs.Given.{Delivers};
 ghost use Rattle.built_ins.specs.BuiltIns.{built_in_reading, built_in_given};
 
-use answers::{Answer, Refusal, Verdict};
-use models::held;
+use answers::{Answer, Refusal};
 use models::model::Reading;
 
 // The built-in model of a number.
@@ -16,13 +15,9 @@ pub fn built_in(number: u64) -> Reading
     ensures { result ≡ built_in_reading number }
 {
     if 15 < number {
-        return held::refuse(Refusal::OutOfRange);
+        return Err(Refusal::OutOfRange);
     }
-    let model = numbers::built_model(number as usize);
-    Reading {
-        verdict: Ok(()),
-        model,
-    }
+    Ok(numbers::built_model(number as usize))
 }
 
 // Writes the text of a built-in model.

@@ -2,7 +2,7 @@
 -- Assumes nothing.
 use Rattle.std.proofs.Common.{◌≡◌, ℕ, ◌+◌, ◌^◌, ◌<◌, ◌≤◌, List, [], ◌∷◌, ◌++◌, length, get_or, refl, ap, ◌∙◌, arith, length-append, Ok, Err}
 use Rattle.ground.specs.Bytes.{bytes}
-use Rattle.answers.specs.Answer.{Answer, done}
+use Rattle.answers.specs.Answer.{Answer}
 use Rattle.answers.specs.Answer.{numbers_of}
 use Rattle.printing.specs.Decimal.{decimal}
 use Rattle.printing.proofs.Decimals.{length_digits}
@@ -16,7 +16,7 @@ pub all_five : (a : Answer) (l : List ℕ) → l ≡ numbers_of a
 all_five a l e = ap five e ∙ all a
   where
     all : (a : Answer) → five (numbers_of a) ≡ numbers_of a
-    all (Ok (done written fences state)) = refl
+    all (Ok d) = refl
     all (Err why) = refl
 
 behind-length : (n : ℕ) (rest : List ℕ) → n < 10 ^ 20 → length (behind_blanks (n ∷ rest)) ≤ 21 + length (behind_blanks rest)

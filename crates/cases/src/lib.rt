@@ -98,7 +98,7 @@ fn five_text(a: u64, b: u64, c: u64, d: u64, e: u64, out: &mut [u8]) -> Answer
 pub fn answer_text(answer: Answer, out: &mut [u8]) -> Answer
     ensures { Delivers (gives (with_blanks (numbers_of answer)) 0 0) out.old result out.new }
 {
-    let all = answer.numbers();
+    let all = answers::numbers(answer);
     five_text(all[0], all[1], all[2], all[3], all[4], out)
 }
 
@@ -106,6 +106,6 @@ pub fn answer_text(answer: Answer, out: &mut [u8]) -> Answer
 pub fn output_of(answer: Answer, buffer: &[u8]) -> &[u8]
     ensures { result.now ≡ take (slice_index (numbers_of answer) 2) buffer.now }
 {
-    let numbers = answer.numbers();
+    let numbers = answers::numbers(answer);
     front(buffer, numbers[2] as usize)
 }

@@ -4,6 +4,7 @@ use Rattle.std.proofs.Common.{Result}
 use Prim.Native.Nat.{ℕ}
 use mathlib.Core.Path.{◌≡◌, sym, ◌∙◌}
 use mathlib.Core.List.{List}
+use Rattle.answers.specs.declared.Refusal.{Refusal}
 use Rattle.tables.specs.declared.table.Table.{Table}
 use Rattle.comparison.specs.declared.Comparison.{Comparison}
 use Rattle.comparison.specs.Comparison.{number_of, Compares, comparing}

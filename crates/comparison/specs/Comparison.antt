@@ -1,7 +1,7 @@
 -- Document 01: "Two models are compared by their ppo: equal, first stronger, second stronger, or neither; stronger means no cell lower and
 -- some cell higher."
 use Rattle.std.specs.Prelude.{ℕ, ◌≤◌, ◌<◌, ◌≡◌, cond, List, Ok, Err, Result}
-use Rattle.answers.specs.Answer.{Verdict}
+use Rattle.answers.specs.declared.Refusal.{Refusal}
 use Rattle.tables.specs.declared.table.Table.{Table}
 use Rattle.tables.specs.declared.table.Row.{Row}
 use Rattle.tables.specs.declared.table.Column.{Column}
@@ -44,13 +44,13 @@ comparison a b =
     (cond (at_least b a) Comparison.SecondStronger Comparison.Neither)
 
 -- the refusals of the first text, then of the second, then the comparison
-abbrev pub compared_both : Table → Verdict → Table → Result Comparison Refusal
-compared_both a (Ok tt) b = Ok (comparison a b)
-compared_both a (Err why) b = Err why
+abbrev pub compared_both : Table → Reading → Result Comparison Refusal
+compared_both a (Ok m) = Ok (comparison a m.ppo)
+compared_both a (Err why) = Err why
 
-abbrev pub compared_first : Verdict → Table → Reading → Result Comparison Refusal
-compared_first (Ok tt) a s = compared_both a s.verdict s.model.ppo
-compared_first (Err why) a s = Err why
+abbrev pub compared_first : Reading → Reading → Result Comparison Refusal
+compared_first (Ok m) s = compared_both m.ppo s
+compared_first (Err why) s = Err why
 
 unfoldable pub comparing : List ℕ → List ℕ → Result Comparison Refusal
-comparing t u = compared_first (reading t).verdict (reading t).model.ppo (reading u)
+comparing t u = compared_first (reading t) (reading u)

@@ -2,10 +2,9 @@
 #![tactic(auto)]
 
 ghost use Rattle.std.specs.Prelude.{◌≡◌};
-ghost use Rattle.comparison.specs.Comparison.{number_of, comparison, Compares, comparing, compared_both};
+ghost use Rattle.comparison.specs.Comparison.{number_of, comparison, Compares, comparing};
 
-use answers::{Refusal, Verdict};
-use models::model::Reading;
+use answers::Refusal;
 use tables::table::Table;
 
 // How one model stands to another.
@@ -31,11 +30,7 @@ impl Comparison {
 }
 
 // What a comparison answers.
-#[derive(Clone, Copy)]
-pub enum Compared {
-    Is(Comparison),
-    Refused(Refusal),
-}
+pub type Compared = Result<Comparison, Refusal>;
 
 // Compares two tables.
 pub fn compare_tables(first: Table, second: Table) -> Comparison
@@ -54,26 +49,12 @@ pub fn compare_tables(first: Table, second: Table) -> Comparison
     Comparison::Neither
 }
 
-fn compare_with(first: Table, second: Reading) -> Compared
-    ensures { result ≡ compared_both first second.verdict second.model.ppo }
-{
-    let verdict = second.verdict;
-    let model = second.model;
-    match verdict {
-        Err(why) => Err(why),
-        Ok(()) => Ok(compare_tables(first, model.ppo)),
-    }
-}
-
 // Compares the models of two texts.
+#[tactic(auto, unfolding(crate::specs::Comparison::comparing))]
 pub fn compare(first: &[u8], second: &[u8]) -> Compared
     ensures { result ≡ comparing first.now second.now }
 {
-    let r = models::reader::read(first);
-    let verdict = r.verdict;
-    let model = r.model;
-    match verdict {
-        Err(why) => Err(why),
-        Ok(()) => compare_with(model.ppo, models::reader::read(second)),
-    }
+    let a = models::reader::read(first)?;
+    let b = models::reader::read(second)?;
+    Ok(compare_tables(a.ppo, b.ppo))
 }

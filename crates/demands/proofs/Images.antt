@@ -27,7 +27,7 @@ use Rattle.layout.specs.Verdict.{block_count, lowest_wrong, lowest_barred, stage
 use Rattle.image.specs.Calls.{written_back}
 use Rattle.image_runs.specs.declared.Stop.{Stop}
 use Rattle.image_runs.specs.declared.Move.{Move}
-use Rattle.image_runs.specs.declared.Step.{Step}
+use Rattle.image_runs.specs.Run.{Step}
 use Rattle.image_runs.specs.Run.{step_as, step_at, puts, inserts, leads, Walked, ended, stopped, walked_on, resumed, walked, then}
 use Rattle.image_runs.specs.Run.{refusal_of, outcome_of, run_as, run_over}
 use Rattle.image_runs.proofs.Theorems.{goes_on}
@@ -110,38 +110,38 @@ module _ (image : List ℕ) where
   FaultOf Stop.NoSuchFence = WalkFault5 image
   FaultOf Stop.NoFenceWillDo = WalkFault6 image
 
-  stop_fault : (why : Stop) (b s : ℕ) → step_at image s b ≡ Step.Stopped why → FaultOf why b s
+  stop_fault : (why : Stop) (b s : ℕ) → step_at image s b ≡ Err why → FaultOf why b s
   unfolding step_at
   stop_fault why b s = by (byte_is b) refl
     where
-      as_is : (is : Stop) → FaultOf is b s → Step.Stopped is ≡ Step.Stopped why → FaultOf why b s
+      as_is : (is : Stop) → FaultOf is b s → Err is ≡ Err why → FaultOf why b s
       as_is is h e =
           let same : is ≡ why = cc in
           subst (λ (x : Stop). FaultOf x b s) same h
 
       access : (k : Kind) → byte_is b ≡ Some (Operation.Access k) → (t : Bool) → eqb (at image (position 1 s (2 * letter_of k))) 254 ≡ t
-          → (m : Move) → cond t (Step.Stopped Stop.NoFenceWillDo) (Step.Taken m) ≡ Step.Stopped why → FaultOf why b s
+          → (m : Move) → cond t (Err Stop.NoFenceWillDo) (Ok m) ≡ Err why → FaultOf why b s
       access k is true t m e = as_is Stop.NoFenceWillDo (k, is, eqb-true (at image (position 1 s (2 * letter_of k))) 254 t) e
       access k is false t m e = differ (cc)
 
       fence : (f : ℕ) → byte_is b ≡ Some (Operation.Fence f) → (t : Bool) → ltb f (upstream_fences_of image) ≡ t
-          → (m : Move) → cond t (Step.Taken m) (Step.Stopped Stop.NoSuchFence) ≡ Step.Stopped why → FaultOf why b s
+          → (m : Move) → cond t (Ok m) (Err Stop.NoSuchFence) ≡ Err why → FaultOf why b s
       fence f is true t m e = differ (cc)
       fence f is false t m e = as_is Stop.NoSuchFence (f, is, ltb-false f (upstream_fences_of image) t) e
 
-      by : (x : Option Operation) → byte_is b ≡ x → step_as image s x ≡ Step.Stopped why → FaultOf why b s
+      by : (x : Option Operation) → byte_is b ≡ x → step_as image s x ≡ Err why → FaultOf why b s
       by None is e = as_is Stop.NoOperation is e
       by (Some (Operation.Access k)) is e = access k is (eqb (at image (position 1 s (2 * letter_of k))) 254) refl _ e
       by (Some (Operation.Fence f)) is e = fence f is (ltb f (upstream_fences_of image)) refl _ e
 
-  fault_stop : (why : Stop) (b s : ℕ) → FaultOf why b s → step_at image s b ≡ Step.Stopped why
+  fault_stop : (why : Stop) (b s : ℕ) → FaultOf why b s → step_at image s b ≡ Err why
   unfolding step_at
   fault_stop Stop.NoOperation b s h = ap (step_as image s) h
   fault_stop Stop.NoSuchFence b s (f, e, l) = rw (e, le-ltb f (upstream_fences_of image) l)
   fault_stop Stop.NoFenceWillDo b s (k, e, l) = rw (e, eq-eqb (at image (position 1 s (2 * letter_of k))) 254 l)
 
   -- a byte that is taken comes before a stop further on
-  further : {s b i : ℕ} {m : Move} {rest : List ℕ} {Fault : ℕ → ℕ → Type 0} → step_at image s b ≡ Step.Taken m
+  further : {s b i : ℕ} {m : Move} {rest : List ℕ} {Fault : ℕ → ℕ → Type 0} → step_at image s b ≡ Ok m
       → WalkStopsAt image (leads m) rest i Fault → WalkStopsAt image s (b ∷ rest) (1 + i) Fault
   unfolding walked
   further {b = b} {m = m} e h =
@@ -167,7 +167,7 @@ module _ (image : List ℕ) where
       StopsHere : ℕ → Type 0
       StopsHere i = WalkStopsAt image s (b ∷ rest) i (FaultOf why)
 
-      later : (m : Move) → step_at image s b ≡ Step.Taken m → (w : Walked) → walked image (leads m) rest ≡ w
+      later : (m : Move) → step_at image s b ≡ Ok m → (w : Walked) → walked image (leads m) rest ≡ w
           → ((i : ℕ) → walked image (leads m) rest ≡ stopped why i → WalkStopsAt image (leads m) rest i (FaultOf why))
           → walked_on 1 (puts b m) (inserts m) w ≡ stopped why place → StopsHere place
       later m is (ended out n t) w next e = differ (cc)
@@ -179,9 +179,9 @@ module _ (image : List ℕ) where
       by : (step : Step) → step_at image s b ≡ step
           → ((t i : ℕ) → walked image t rest ≡ stopped why i → WalkStopsAt image t rest i (FaultOf why))
           → resumed b (λ (t : ℕ). walked image t rest) step ≡ stopped why place → StopsHere place
-      by (Step.Taken m) is next e = later m is (walked image (leads m) rest) refl (next (leads m)) e
-      by (Step.Stopped stop) is next e =
-          let same : Step.Stopped stop ≡ Step.Stopped why = cc in
+      by (Ok m) is next e = later m is (walked image (leads m) rest) refl (next (leads m)) e
+      by (Err stop) is next e =
+          let same : Err stop ≡ Err why = cc in
           record {
             first = [];
             byte = b;

@@ -9,7 +9,7 @@ use Rattle.answers.specs.Answer.{Answer, done}
 use Rattle.answers.specs.Given.{Answers}
 use Rattle.rule.specs.Rule.{way_number}
 use Rattle.shims.specs.declared.Models.{Models}
-use Rattle.shims.specs.declared.Opening.{Opening}
+use Rattle.shims.specs.Opening.{Opening}
 use Rattle.shims.specs.Opening.{way_of, on_opened, Opens}
 use Rattle.shims.proofs.Theorems.{read_written, opens_so}
 use Rattle.runs.specs.Call.{run_given}

@@ -18,7 +18,7 @@ use Rattle.models.specs.Reading.{reading}
 use Rattle.models.specs.Told.{Told, nothing, accepting, refusing, over, departs, repeated, accepted}
 use Rattle.models.proofs.Words.{told, told_is}
 use Rattle.shims.specs.declared.Models.{Models}
-use Rattle.shims.specs.declared.Opening.{Opening}
+use Rattle.shims.specs.Opening.{Opening}
 use Rattle.shims.specs.Opening as shims
 use Rattle.shims.specs.Opening.{way_of, on_verdict, on_reading, on_target, opened_by, opened, Opens}
 use Rattle.shims.proofs.Theorems.{read_written, opens_so}

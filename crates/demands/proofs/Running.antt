@@ -12,7 +12,7 @@ use Rattle.answers.specs.declared.Refusal.{Refusal}
 use Rattle.answers.specs.Answer.{Verdict}
 use Rattle.answers.specs.Given.{Given, refuses, unless_refused}
 use Rattle.shims.specs.declared.Models.{Models}
-use Rattle.shims.specs.declared.Opening.{Opening}
+use Rattle.shims.specs.Opening.{Opening}
 use Rattle.shims.specs.Opening.{way_of, opened, on_opened}
 use Rattle.shims.proofs.Theorems.{opens, opens_so}
 use Rattle.runs.specs.Bytes.{direct}

@@ -29,7 +29,7 @@ use Rattle.writing.proofs.Short.{text_short}
 use Rattle.built_ins.specs.BuiltIns.{four_rows, under, none, model, built_ins, built_in, built_in_reading, built_in_given}
 use Rattle.rule.specs.Rule.{way_number}
 use Rattle.shims.specs.declared.Models.{Models}
-use Rattle.shims.specs.declared.Opening.{Opening}
+use Rattle.shims.specs.Opening.{Opening}
 use Rattle.shims.specs.Opening.{opened_by}
 use Rattle.shims.proofs.Theorems.{read_written}
 use Rattle.runs.specs.Bytes.{direct}

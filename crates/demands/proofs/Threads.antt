@@ -38,7 +38,7 @@ use Rattle.barred.specs.Barred.{states_of, upstream_fences_of}
 use Rattle.layout.specs.Verdict.{verdict_of}
 use Rattle.layout.proofs.Faultless as layout
 use Rattle.image_runs.specs.declared.Stop.{Stop}
-use Rattle.image_runs.specs.declared.Step.{Step}
+use Rattle.image_runs.specs.Run.{Step}
 use Rattle.image_runs.specs.Run.{step_as, step_at, Walked, ended, stopped, walked_on, resumed, walked, then, refusal_of, outcome_of, run_as, run_over}
 use Rattle.image_runs.proofs.Theorems as walks
 use Rattle.demands.specs.Streams.{StreamIn, Own}
@@ -197,7 +197,7 @@ module _ {m : Models} {image : List ℕ} (i : MinimalImage m image) where
 
   -- a byte that every state stops at
   stops_there : {stream : List ℕ} {place : ℕ} {Fault : ℕ → Stream → Stream → Type 0} (s : StopsAt m stream place Fault) (why : Stop)
-      → ((t : ℕ) → step_at image t s.byte ≡ Step.Stopped why) → walked image 0 stream ≡ stopped why place
+      → ((t : ℕ) → step_at image t s.byte ≡ Err why) → walked image 0 stream ≡ stopped why place
   unfolding walked
   stops_there {place = place} s why h =
       let first = walk_is s.first s.input s.input_read s.input_own (done s.output) s.accepted in
@@ -238,11 +238,11 @@ module _ {m : Models} {image : List ℕ} (i : MinimalImage m image) where
       ∙ walks.goes_on image 0 bytes s.rest
       ∙ ap (λ (r : Walked). then (length bytes) r (λ (t : ℕ). walked image t s.rest)) (walk_is bytes input reads own (refused place) no)
 
-  no_operation_step : (b t : ℕ) → byte_is b ≡ None → step_at image t b ≡ Step.Stopped Stop.NoOperation
+  no_operation_step : (b t : ℕ) → byte_is b ≡ None → step_at image t b ≡ Err Stop.NoOperation
   unfolding step_at
   no_operation_step b t e = ap (step_as image t) e
 
-  no_fence_step : (b f t : ℕ) → byte_is b ≡ Some (Operation.Fence f) → length (up m).fences ≤ f → step_at image t b ≡ Step.Stopped Stop.NoSuchFence
+  no_fence_step : (b f t : ℕ) → byte_is b ≡ Some (Operation.Fence f) → length (up m).fences ≤ f → step_at image t b ≡ Err Stop.NoSuchFence
   unfolding step_at
   no_fence_step b f t e l = rw (e, le-ltb f (upstream_fences_of image) (omega (arith, i.upstream_fences)))
 

@@ -1,6 +1,6 @@
 -- A run over an image and the run of the machine that its bytes tell are the same, operation by operation: an entry's bytes are what both answer by.
 -- This holds of all bytes, whether or not they are an image. Assumes nothing.
-use Rattle.std.proofs.Common.{Some}
+use Rattle.std.proofs.Common.{Some, Ok, Err}
 use Prim.Native.Nat.{ℕ, suc, ◌+◌, ◌-◌, ◌*◌}
 use mathlib.Core.Path.{◌≡◌, refl, sym, ap, ap₂, ◌∙◌}
 use mathlib.Core.Bool.{Bool, true, false, cond}
@@ -27,7 +27,7 @@ use Rattle.places.specs.Layout.{position}
 use Rattle.barred.specs.Barred.{upstream_fences_of}
 use Rattle.image_runs.specs.declared.Stop.{Stop}
 use Rattle.image_runs.specs.declared.Move.{Move}
-use Rattle.image_runs.specs.declared.Step.{Step}
+use Rattle.image_runs.specs.Run.{Step}
 use Rattle.image_runs.specs.Run as walks
 use Rattle.image_runs.specs.Run.{access_step, step_at, Walked, ended, stopped, walked_on, resumed, walked}
 use Rattle.demands.specs.Streams.{StreamIn}
@@ -52,9 +52,9 @@ walk_behind put (refused i) t =
 
 -- a step of a walk and an answer of the machine: both stop, or both put out the same and lead to the same state
 pub data SameStep (b : ℕ) : Step → mealy.Answer Stream ℕ → Type 0 where
-  stop : SameStep b (Step.Stopped Stop.NoFenceWillDo) mealy.refused
+  stop : SameStep b (Err Stop.NoFenceWillDo) mealy.refused
   move : (m : Move) (put : Stream) → walks.puts b m ≡ map byte_of put → walks.inserts m ≡ fences put
-      → SameStep b (Step.Taken m) (mealy.taken put (walks.leads m))
+      → SameStep b (Ok m) (mealy.taken put (walks.leads m))
 
 alike_on : (b s : ℕ) {x : Step} {y : mealy.Answer Stream ℕ} → SameStep b x y → (rest : ℕ → Walked) (ran : ℕ → Ran) (to : ℕ → ℕ)
     → ((t : ℕ) → rest t ≡ walk_of (ran t) (to t)) → resumed b rest x ≡ walk_of (say y ran) (go y s to)
@@ -76,7 +76,7 @@ access_alike b k is fence next = by (eqb fence 254) (eqb fence 255) refl
     two e = rw (lt-ltb (letter_of k) access_letters (letter_few k), kind_of_letter k, e)
 
     by : (x y : Bool) → eqb fence 255 ≡ y
-        → SameStep b (cond x (Step.Stopped Stop.NoFenceWillDo) (Step.Taken (cond y (Move.Plain next) (Move.Fenced (fence_byte fence) next))))
+        → SameStep b (cond x (Err Stop.NoFenceWillDo) (Ok (cond y (Move.Plain next) (Move.Fenced (fence_byte fence) next))))
         (spelt (letter_of k) (cond x mealy.refused (mealy.taken fence next)))
     by true y e = stop
     by false true e =

@@ -14,7 +14,7 @@ use Rattle.answers.proofs.Given.{delivers_refusal, delivers_as}
 use Rattle.operations.specs.Alphabet.{stride}
 use Rattle.layout.proofs.Faultless.{accepted_faultless}
 use Rattle.image.specs.declared.machine.Header.{Header}
-use Rattle.image.specs.declared.machine.Reading.{Reading}
+use Rattle.image.specs.Image.{Reading}
 use Rattle.image.specs.Image.{header_of, rows_of, Canonical, ReadsTo}
 use Rattle.image.proofs.Readings.{length-rows}
 use Rattle.image.proofs.Accepted.{canonical_read}

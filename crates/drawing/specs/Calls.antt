@@ -8,4 +8,4 @@ use Rattle.drawing.specs.Drawing.{drawing_of}
 
 -- what drawing an image comes to
 unfoldable pub drawn : List ℕ → Given
-drawn image = unless_refused (verdict_of image) (gives (drawing_of (header_of image) (rows_of image)) 0 0)
+drawn image = unless_refused (verdict_of image) λ _. gives (drawing_of (header_of image) (rows_of image)) 0 0

@@ -9,7 +9,7 @@ ghost use Rattle.drawing_edges.specs.Edges.{LedLabel, Led, EdgeEnd, EdgePart, Sh
 
 use drawing_nodes::decimal;
 use operations::alphabet::{ACCESSES, STRIDE};
-use operations::{Option<Operation>, Operation, alphabet};
+use operations::{Operation, alphabet};
 use texts::{Part, Step};
 
 // How many states a machine has, how many letters, and how many fences its target has.

@@ -16,7 +16,7 @@ use Rattle.rule.specs.declared.way.Shim.{Shim}
 use Rattle.rule.specs.Pairs.{Model}
 use Rattle.rule.specs.Sides.{upstream_of, target_of}
 use Rattle.shims.specs.declared.Models.{Models}
-use Rattle.shims.specs.declared.Opening.{Opening}
+use Rattle.shims.specs.Opening.{Opening}
 use Rattle.shims.specs.Models.{model_of, shim_between}
 use Rattle.shims.specs.Opening.{way_of, opened, Opens}
 use Rattle.shims.proofs.Calls.{given_opened}

@@ -6,7 +6,7 @@ use Rattle.answers.specs.Given.{gives, Delivers}
 use Rattle.answers.specs.Answer.{Answer}
 use Rattle.answers.proofs.Given.{delivers_one}
 use Rattle.image.specs.declared.machine.Header.{Header}
-use Rattle.image.specs.declared.machine.Reading.{Reading}
+use Rattle.image.specs.Image.{Reading}
 use Rattle.image.specs.Image.{image_of, ReadsTo}
 use Rattle.image.specs.Calls.{header_as, Rewrites}
 

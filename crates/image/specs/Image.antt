@@ -2,7 +2,7 @@
 -- A machine is its header and its rows: a word for each state and letter, at a constant stride, 256 times the fence byte and the next state.
 -- The letters are l, L, s, S and then the upstream fences, whose words have FF for a fence byte; the word of a letter that the machine has not
 -- is 0.
-use Rattle.std.specs.Prelude.{ℕ, zero, suc, ◌+◌, ◌-◌, ◌*◌, ◌/◌, ◌%◌, ◌<◌, ◌≤◌, ◌≡◌, true, cond, ◌⊎◌, List, [], ◌∷◌, ◌++◌, leb, ltb, eqb, length, replicate, Ok, Err}
+use Rattle.std.specs.Prelude.{ℕ, zero, suc, ◌+◌, ◌-◌, ◌*◌, ◌/◌, ◌%◌, ◌<◌, ◌≤◌, ◌≡◌, true, cond, ◌⊎◌, List, [], ◌∷◌, ◌++◌, leb, ltb, eqb, length, Result, Ok, Err}
 use Rattle.ground.specs.Bytes.{at, name_byte}
 use Rattle.answers.specs.Buffer.{buffer_with}
 use Rattle.answers.specs.declared.Refusal.{Refusal}
@@ -10,7 +10,6 @@ use Rattle.answers.specs.Answer.{Verdict}
 use Rattle.operations.specs.Alphabet.{access_letters, stride}
 use Rattle.places.specs.declared.Place.{Place}
 use Rattle.image.specs.declared.machine.Header.{Header}
-use Rattle.image.specs.declared.machine.Reading.{Reading}
 use Rattle.blocks.specs.Checksum.{two_bytes, checksum}
 use Rattle.places.specs.Layout.{accesses, blocks_for, stands_at, position}
 use Rattle.barred.specs.Barred.{states_of, upstream_fences_of, target_fences_of}
@@ -93,17 +92,12 @@ rows_of image = listed (states_of image * stride) (row_word image)
 
 -- what `read` answers by the verdict on an image, where rows have room for so many words, and the rows after it
 
-abbrev pub no_header : Header
-no_header = record { way = 0; states = 0; ups = 0; targets = 0; upstream = replicate 16 0; target = replicate 16 0 }
-
-abbrev pub refused_reading : Refusal → Reading
-refused_reading why = record { verdict = Err why; header = no_header }
+abbrev pub Reading : Type 0
+Reading = Result Header Refusal
 
 abbrev pub read_as : List ℕ → ℕ → Verdict → Reading
-read_as image room (Err why) = refused_reading why
-read_as image room (Ok tt) =
-    cond (leb (states_of image * stride) room) (record { verdict = (Ok tt); header = header_of image })
-    (refused_reading Refusal.BufferTooSmall)
+read_as image room (Err why) = Err why
+read_as image room (Ok tt) = cond (leb (states_of image * stride) room) (Ok (header_of image)) (Err Refusal.BufferTooSmall)
 
 abbrev pub rows_as : List ℕ → List ℕ → Verdict → List ℕ
 rows_as image rows (Err why) = rows

@@ -5,23 +5,16 @@ ghost use Rattle.answers.specs.Given.{Delivers};
 ghost use Rattle.image.specs.Calls.{written_back, header_as, Rewrites};
 
 use crate::{reader, writer};
-use answers::{Answer, Verdict};
+use answers::Answer;
 use operations::alphabet::{STRIDE, WORDS};
 
 fn write_back(image: &[u8], out: &mut [u8]) -> Answer
     ensures { Delivers (written_back image.now) out.old result out.new }
 {
     let mut rows = [0u16; WORDS];
-    let reading = reader::read(image, &mut rows);
-    let verdict = reading.verdict;
-    let header = reading.header;
-    match verdict {
-        Err(why) => Err(why),
-        Ok(()) => {
-            let n = ground::wide(header.states) * STRIDE;
-            writer::write(header, &rows[..n], out)
-        }
-    }
+    let header = reader::read(image, &mut rows)?;
+    let n = ground::wide(header.states) * STRIDE;
+    writer::write(header, &rows[..n], out)
 }
 
 // A number that a header tells: a byte of the image.
@@ -36,17 +29,13 @@ fn header_of(image: &[u8], answer: Answer) -> [u64; 4]
     ensures { result ≡ header_as image.now answer }
 {
     match answer {
-        Answer::Done {
-            written: _,
-            fences: _,
-            state: _,
-        } => [
+        Ok(_) => [
             header_number(image, 3),
             header_number(image, 4),
             header_number(image, 5),
             header_number(image, 6),
         ],
-        Err(_) => [0, 0, 0, 0],
+        Err(_) => [0; 4],
     }
 }
 

@@ -1,6 +1,6 @@
 // A machine with its names, as an image holds it. The rows of its states are lent beside it: a word for each state and letter, 256 times the
 // fence byte and the next state.
-use answers::Verdict;
+use answers::Refusal;
 
 // Bytes, so that every header has an image. The names are filled up with zeros.
 #[derive(Clone, Copy)]
@@ -13,9 +13,5 @@ pub struct Header {
     pub target: [u8; 16],
 }
 
-// Where the image is refused the header holds nothing.
-#[derive(Clone, Copy)]
-pub struct Reading {
-    pub verdict: Verdict,
-    pub header: Header,
-}
+// What reading an image gives.
+pub type Reading = Result<Header, Refusal>;

@@ -1,12 +1,12 @@
 // Reading an image to a machine.
-ghost use Rattle.std.specs.Prelude.{ℕ, ◌+◌, ◌*◌, ◌/◌, ◌%◌, ◌<◌, ◌≤◌, ◌≡◌, length};
+ghost use Rattle.std.specs.Prelude.{ℕ, ◌+◌, ◌*◌, ◌/◌, ◌%◌, ◌<◌, ◌≤◌, ◌≡◌, length, Ok};
 ghost use Rattle.ground.specs.Bytes.{at};
 ghost use Rattle.operations.specs.Alphabet.{stride};
-ghost use Rattle.image.specs.Image.{listed, header_of, entry_word, row_word, refused_reading, ReadsAs, ReadsTo};
+ghost use Rattle.image.specs.Image.{listed, header_of, entry_word, row_word, ReadsAs, ReadsTo};
 ghost use Rattle.image.specs.inner.Filling.{Filled};
 
 use crate::machine::{Header, Reading};
-use answers::{Refusal, Verdict};
+use answers::Refusal;
 use layout::verdict;
 use operations::alphabet::{ACCESSES, STRIDE};
 
@@ -66,45 +66,22 @@ fn fill_rows(image: &[u8], rows: &mut [u16], count: usize)
     }
 }
 
-fn refused(why: Refusal) -> Reading
-    ensures { result ≡ refused_reading why }
-{
-    let header = Header {
-        way: 0,
-        states: 0,
-        ups: 0,
-        targets: 0,
-        upstream: [0; 16],
-        target: [0; 16],
-    };
-    Reading {
-        verdict: Err(why),
-        header,
-    }
-}
-
 // Of an image that is accepted.
 fn read_accepted(image: &[u8], rows: &mut [u16]) -> Reading
-    ensures { ReadsAs Verdict.Accepted image.now rows.old result rows.new }
+    ensures { ReadsAs (Ok tt) image.now rows.old result rows.new }
 {
     let count = ground::number_at(image, 4) * STRIDE;
     if rows.len() < count {
-        return refused(Refusal::BufferTooSmall);
+        return Err(Refusal::BufferTooSmall);
     }
     fill_rows(image, rows, count);
-    Reading {
-        verdict: Ok(()),
-        header: header(image),
-    }
+    Ok(header(image))
 }
 
 // The machine of an image, its rows to the front of `rows`.
 pub fn read(image: &[u8], rows: &mut [u16]) -> Reading
     ensures { ReadsTo image.now rows.old result rows.new }
 {
-    let verdict = verdict::examine(image);
-    match verdict {
-        Err(why) => refused(why),
-        Ok(()) => read_accepted(image, rows),
-    }
+    verdict::examine(image)?;
+    read_accepted(image, rows)
 }

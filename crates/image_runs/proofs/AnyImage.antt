@@ -1,6 +1,6 @@
 -- A run over any image that is accepted, handmade too: no byte of its entries is barred, so each next state is a state, and what a fenced access
 -- puts out before it is a fence byte. Assumes nothing.
-use Rattle.std.proofs.Common.{Option, Some, None, Ok}
+use Rattle.std.proofs.Common.{Option, Some, None, Ok, Err}
 use Prim.Native.Nat.{ℕ, suc, ◌+◌, ◌*◌, ◌<◌, ◌≤◌}
 use mathlib.Core.Path.{◌≡◌, refl, ap, ap₂, subst}
 use mathlib.Core.Logic.{◌⊎◌, inl, inr}
@@ -23,7 +23,7 @@ use Rattle.barred.specs.Barred.{states_of, upstream_fences_of, target_fences_of}
 use Rattle.layout.specs.Verdict.{verdict_of}
 use Rattle.layout.specs.inner.Faultless.{Faultless}
 use Rattle.layout.proofs.Faultless.{accepted_faultless, few_targets, entry_fence, entry_next, entry_onward}
-use Rattle.image_runs.specs.declared.Step.{Step}
+use Rattle.image_runs.specs.Run.{Step}
 use Rattle.image_runs.specs.Run.{access_step, step_as, step_at, puts, inserts, leads, Walked, ended, stopped, walked_on, resumed, walked}
 use Rattle.image_runs.proofs.Runs.{puts_few}
 
@@ -43,8 +43,8 @@ few image s (b ∷ rest) = by (step_at image s b) (λ t. few image t rest)
   where
     by : (step : Step) → ((t : ℕ) → Few (2 * length rest) (walked image t rest))
         → Few (2 * suc (length rest)) (resumed b (λ (t : ℕ). walked image t rest) step)
-    by (Step.Stopped why) h = tt
-    by (Step.Taken m) h =
+    by (Err why) h = tt
+    by (Ok m) h =
         few_on (puts b m) (inserts m) (2 * length rest) (2 * suc (length rest)) (walked image (leads m) rest)
         (omega (arith, puts_few b m)) (h (leads m))
 
@@ -55,8 +55,8 @@ longest_walk image s stream e = subst (Few (2 * length stream)) e (few image s s
 
 -- a step leads to a state, and what it inserts is what it puts out as fences
 abbrev Sound : List ℕ → ℕ → Step → Type 0
-Sound image b (Step.Taken m) = (leads m < states_of image) × (fence_bytes (puts b m) ≡ inserts m)
-Sound image b (Step.Stopped why) = Unit {0}
+Sound image b (Ok m) = (leads m < states_of image) × (fence_bytes (puts b m) ≡ inserts m)
+Sound image b (Err why) = Unit {0}
 
 -- the same of a run that ends
 abbrev Whole : List ℕ → Walked → Type 0
@@ -115,8 +115,8 @@ module _ (image : List ℕ) (bytes : (i : ℕ) → at image i < 256) (faultless 
     where
       by : (step : Step) → Sound image b step → ((t : ℕ) → t < states_of image → Whole image (walked image t rest))
           → Whole image (resumed b (λ (t : ℕ). walked image t rest) step)
-      by (Step.Stopped why) g h = tt
-      by (Step.Taken m) g h = whole_on image (puts b m) (inserts m) g.1 (walked image (leads m) rest) (h (leads m) g.0)
+      by (Err why) g h = tt
+      by (Ok m) g h = whole_on image (puts b m) (inserts m) g.1 (walked image (leads m) rest) (h (leads m) g.0)
 
 -- For readers: over every accepted image, from any of its states, a run that ends ends in a state of the image, and the fences that it tells are the
 -- fence bytes that it put out.

@@ -1,5 +1,5 @@
 -- What a run's ending answers, and the stages before it: an image refused, a start out of range, a stream over its limit. Assumes nothing.
-use Rattle.std.proofs.Common.{Ok, Err}
+use Rattle.std.proofs.Common.{Result, Ok, Err}
 use Prim.Native.Nat.{ℕ, ◌<◌, ◌≤◌}
 use mathlib.Core.Path.{◌≡◌, sym, ap, subst, ◌∙◌}
 use mathlib.Core.List.{List}
@@ -13,29 +13,27 @@ use Rattle.answers.specs.Given.{gives, refuses, Delivers}
 use Rattle.answers.proofs.Given.{delivers_refusal, delivers_as}
 use Rattle.image_runs.specs.declared.Stop.{Stop}
 use Rattle.image_runs.specs.declared.Progress.{Progress}
-use Rattle.image_runs.specs.declared.Ending.{Ending}
 use Rattle.barred.specs.Barred.{states_of}
 use Rattle.layout.specs.Verdict.{verdict_of}
 use Rattle.image_runs.specs.Run.{Walked, ended, stopped, walked, refusal_of, outcome_of, stream_limit, run_as, run_over}
 use Rattle.image_runs.specs.inner.Walking.{Ends}
 
-pub refusal_is : (why is : Stop) (i : ℕ) → why ≡ is → refusal_of is i ≡ refusal_of why i
-refusal_is why is i e = ap (λ (w : Stop). refusal_of w i) (sym e)
+pub ends_refused : (r : Walked) (room : List ℕ) (why : Stop) (i : ℕ) (x : Refusal) → r ≡ stopped why i → x ≡ refusal_of why i → Ends r (Err x) room
+ends_refused r room why i x e is = ap outcome_of e ∙ ap refuses (sym is)
 
-module _ (r : Walked) (e : Ending) (room : List ℕ) (ends : Ends r e room) where
-  pub run_refused : (why : Stop) (i : ℕ) (x : Refusal) (out : List ℕ) → e ≡ Ending.Stopped why i → x ≡ refusal_of why i
-      → Delivers (outcome_of r) out (Err x) out
-  run_refused why i x out h w =
-      let s : r ≡ stopped why i = subst (λ (y : Ending). Ends r y room) h ends in
-      delivers_as (ap refuses w ∙ ap outcome_of (sym s)) (delivers_refusal out)
+module _ (r : Walked) (e : Result Progress Refusal) (room : List ℕ) (ends : Ends r e room) where
+  pub run_refused : (why : Refusal) (out : List ℕ) (a : Answer) → e ≡ Err why → a ≡ Err why → Delivers (outcome_of r) out a out
+  run_refused why out a h told =
+      let s : outcome_of r ≡ refuses why = subst (λ (y : Result Progress Refusal). Ends r y room) h ends in
+      subst (λ (x : Answer). Delivers (outcome_of r) out x out) (sym told) (delivers_as (sym s) (delivers_refusal out))
 
-  pub run_fits : (p : Progress) → e ≡ Ending.Ended p → p.written ≤ length room
-  run_fits p h = (subst (λ (y : Ending). Ends r y room) h ends).0
+  pub run_fits : (p : Progress) → e ≡ Ok p → p.written ≤ length room
+  run_fits p h = (subst (λ (y : Result Progress Refusal). Ends r y room) h ends).0
 
-  pub run_given : (p : Progress) (out out' : List ℕ) (a : Answer) → e ≡ Ending.Ended p
+  pub run_given : (p : Progress) (out out' : List ℕ) (a : Answer) → e ≡ Ok p
       → Delivers (gives (take p.written room) p.fences p.state) out a out' → Delivers (outcome_of r) out a out'
   run_given p out out' a h w =
-      let s : r ≡ ended (take p.written room) p.fences p.state = (subst (λ (y : Ending). Ends r y room) h ends).1 in
+      let s : r ≡ ended (take p.written room) p.fences p.state = (subst (λ (y : Result Progress Refusal). Ends r y room) h ends).1 in
       delivers_as (ap outcome_of (sym s)) w
 
 -- the stages of a run over an image that is accepted

@@ -1,4 +1,5 @@
 -- A run over an image, step by step: what was put out so far, and then the run of the rest, is the whole run. Assumes nothing.
+use Rattle.std.proofs.Common.{Ok, Err}
 use Prim.Native.Nat.{ℕ, suc, ◌+◌, ◌<◌, ◌≤◌}
 use mathlib.Core.Path.{◌≡◌, refl, sym, ap, ap₂, subst, ◌∙◌}
 use mathlib.Core.List.{List, [], ◌∷◌, ◌++◌, append-nil, append_assoc}
@@ -8,7 +9,7 @@ use lib.ListN.{length, set, take, drop, get_or, length-set, drop_of_length-le}
 use lib.Seq.{take-suc-set, drop-cons}
 use Rattle.image_runs.specs.declared.Stop.{Stop}
 use Rattle.image_runs.specs.declared.Move.{Move}
-use Rattle.image_runs.specs.declared.Step.{Step}
+use Rattle.image_runs.specs.Run.{Step}
 use Rattle.image_runs.specs.declared.Progress.{Progress}
 use Rattle.image_runs.specs.Run.{step_at, puts, inserts, leads, Walked, ended, stopped, walked_on, resumed, walked}
 use Rattle.image_runs.specs.inner.Walking.{Small, Moved, Going}
@@ -107,7 +108,7 @@ module _ (image : List ℕ) (start : ℕ) (stream : List ℕ) where
       so_far_by w h =
           g.so_far ∙ ap (walked_on k (take p.written room) p.fences) (next p.state k inside w (sym h ∙ is))
 
-      pub going_on : (m : Move) (r : Progress) (room' : List ℕ) → step ≡ Step.Taken m → Small step → Moved p (get_or stream k 0) m room r room'
+      pub going_on : (m : Move) (r : Progress) (room' : List ℕ) → step ≡ Ok m → Small step → Moved p (get_or stream k 0) m room r room'
           → Going image start stream r room' (k + 1)
       going_on m r room' h small u =
           let l : leads m < 256 = subst Small h small in
@@ -116,7 +117,7 @@ module _ (image : List ℕ) (start : ℕ) (stream : List ℕ) where
             fewer = omega (arith, g.fewer, u.fences, inserts_few m);
             small = omega (arith, u.state);
             so_far =
-                so_far_by (Step.Taken m) h
+                so_far_by (Ok m) h
                 ∙ walked_further k 1 p.fences (inserts m) (take p.written room) (puts (get_or stream k 0) m) (rest (leads m))
                 ∙ ap₂ (λ (o : List ℕ) (c : ℕ). walked_on (k + 1) o c (rest (leads m))) (sym u.out) (sym u.fences)
                 ∙ ap (λ (t : ℕ). walked_on (k + 1) (take r.written room') r.fences (rest t)) (sym u.state);
@@ -125,10 +126,10 @@ module _ (image : List ℕ) (start : ℕ) (stream : List ℕ) where
           rest : ℕ → Walked
           rest t = walked image t (drop (k + 1) stream)
 
-      pub going_stops : (why : Stop) → step ≡ Step.Stopped why → walked image start stream ≡ stopped why k
+      pub going_stops : (why : Stop) → step ≡ Err why → walked image start stream ≡ stopped why k
       going_stops why h =
           let z : k + 0 ≡ k = omega arith in
-          so_far_by (Step.Stopped why) h ∙ ap (stopped why) z
+          so_far_by (Err why) h ∙ ap (stopped why) z
 
     pub going_ends : length stream ≤ k → walked image start stream ≡ ended (take p.written room) p.fences p.state
     unfolding walked

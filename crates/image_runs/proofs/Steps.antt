@@ -1,5 +1,5 @@
 -- The steps of a run over an image, by the tests of their definitions. Assumes nothing.
-use Rattle.std.proofs.Common.{Option, Some}
+use Rattle.std.proofs.Common.{Option, Some, Ok, Err}
 use Prim.Native.Nat.{ℕ, ◌+◌, ◌*◌, ◌<◌, ◌≤◌}
 use mathlib.Core.Path.{◌≡◌, sym, ap, ap₂, ◌∙◌}
 use mathlib.Core.List.{List}
@@ -12,23 +12,23 @@ use Rattle.operations.specs.declared.Operation.{Operation}
 use Rattle.operations.specs.Operation.{byte_is, fence_byte}
 use Rattle.image_runs.specs.declared.Stop.{Stop}
 use Rattle.image_runs.specs.declared.Move.{Move}
-use Rattle.image_runs.specs.declared.Step.{Step}
+use Rattle.image_runs.specs.Run.{Step}
 use Rattle.places.specs.Layout.{entry_start, position}
 use Rattle.barred.specs.Barred.{upstream_fences_of}
 use Rattle.image_runs.specs.Run.{access_step, step_as, step_at}
 use Rattle.image_runs.specs.inner.Walking.{Small}
 
 module _ (fence next : ℕ) (small : next < 256) where
-  pub step_refused : fence ≡ 254 → (Step.Stopped Stop.NoFenceWillDo ≡ access_step fence next) × Unit {0}
+  pub step_refused : fence ≡ 254 → (Err Stop.NoFenceWillDo ≡ access_step fence next) × Unit {0}
   step_refused e = (rw (eq-eqb fence 254 e), tt)
 
-  pub step_plain : (fence ≡ 254 → ⊥) → fence ≡ 255 → (Step.Taken (Move.Plain next) ≡ access_step fence next) × (next < 256)
+  pub step_plain : (fence ≡ 254 → ⊥) → fence ≡ 255 → (Ok (Move.Plain next) ≡ access_step fence next) × (next < 256)
   step_plain z e = (rw (ne_eqb fence 254 z, eq-eqb fence 255 e), small)
 
   pub step_fenced : (b : ℕ) → (fence ≡ 254 → ⊥) → (fence ≡ 255 → ⊥) → b ≡ fence_byte fence
-      → (Step.Taken (Move.Fenced b next) ≡ access_step fence next) × (next < 256)
+      → (Ok (Move.Fenced b next) ≡ access_step fence next) × (next < 256)
   step_fenced b z w e = (
-    rw (ne_eqb fence 254 z, ne_eqb fence 255 w) (ap (λ (x : ℕ). Step.Taken (Move.Fenced x next)) e),
+    rw (ne_eqb fence 254 z, ne_eqb fence 255 w) (ap (λ (x : ℕ). Ok (Move.Fenced x next)) e),
     small,
   )
 
@@ -44,13 +44,13 @@ step_access image s k a p f n r c e h l w =
     )
 
 module _ (image : List ℕ) (s f u : ℕ) (ups : u ≡ upstream_fences_of image) where
-  pub step_no_fence : u ≤ f → (Step.Stopped Stop.NoSuchFence ≡ step_as image s (Some (Operation.Fence f))) × Unit {0}
+  pub step_no_fence : u ≤ f → (Err Stop.NoSuchFence ≡ step_as image s (Some (Operation.Fence f))) × Unit {0}
   step_no_fence l = (rw (← ups, le-ltb f u l), tt)
 
   pub step_passed : (p n : ℕ) → f < u → p ≡ entry_start 1 s → n ≡ at image (p + (8 + f)) → n < 256
-      → (Step.Taken (Move.Passed n) ≡ step_as image s (Some (Operation.Fence f))) × (n < 256)
+      → (Ok (Move.Passed n) ≡ step_as image s (Some (Operation.Fence f))) × (n < 256)
   step_passed p n l e h k = (
-    rw (← ups, lt-ltb f u l) (ap (λ (x : ℕ). Step.Taken (Move.Passed x)) (h ∙ ap (λ (x : ℕ). at image (x + (8 + f))) e)),
+    rw (← ups, lt-ltb f u l) (ap (λ (x : ℕ). Ok (Move.Passed x)) (h ∙ ap (λ (x : ℕ). at image (x + (8 + f))) e)),
     k,
   )
 

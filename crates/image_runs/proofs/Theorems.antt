@@ -1,10 +1,11 @@
 -- The theorem about runs over images, as a reader wants to find it. Assumes nothing.
+use Rattle.std.proofs.Common.{Ok, Err}
 use Prim.Native.Nat.{ℕ, suc, ◌+◌}
 use mathlib.Core.Path.{◌≡◌, refl, sym, ap, ◌∙◌}
 use mathlib.Core.List.{List, [], ◌∷◌, ◌++◌}
 use native.Mathlib.Omega.{arith}
 use lib.ListN.{length}
-use Rattle.image_runs.specs.declared.Step.{Step}
+use Rattle.image_runs.specs.Run.{Step}
 use Rattle.image_runs.specs.Run.{step_at, puts, inserts, leads, Walked, ended, stopped, walked_on, resumed, walked, then}
 use Rattle.image_runs.proofs.Runs.{walked_further, walked_none}
 
@@ -25,7 +26,7 @@ goes_on image s (b ∷ first) second = by (step_at image s b) (λ t. goes_on ima
         → ((t : ℕ) → walked image t (first ++ second) ≡ then (length first) (walked image t first) (λ (u : ℕ). walked image u second))
         → resumed b (λ (t : ℕ). walked image t (first ++ second)) step
         ≡ then (suc (length first)) (resumed b (λ (t : ℕ). walked image t first) step) (λ (u : ℕ). walked image u second)
-    by (Step.Stopped why) rest = refl
-    by (Step.Taken m) rest =
+    by (Err why) rest = refl
+    by (Ok m) rest =
         ap (walked_on 1 (puts b m) (inserts m)) (rest (leads m))
         ∙ walked_then (length first) (inserts m) (puts b m) (walked image (leads m) first) (λ (u : ℕ). walked image u second)

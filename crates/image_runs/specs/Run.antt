@@ -5,7 +5,7 @@
 -- operations; the earliest of 4, "a byte is no operation", 5, "the upstream model has no such fence", and 6, "no fence will do for the way",
 -- each at its index; 7 last.
 -- This says all that a run over an image does, for every image that is accepted.
-use Rattle.std.specs.Prelude.{ℕ, ◌+◌, ◌*◌, List, [], ◌∷◌, ◌++◌, cond, leb, ltb, eqb, length, Option, Some, None}
+use Rattle.std.specs.Prelude.{ℕ, ◌+◌, ◌*◌, List, [], ◌∷◌, ◌++◌, cond, leb, ltb, eqb, length, Option, Some, None, Result, Ok, Err}
 use Rattle.ground.specs.Bytes.{at}
 use Rattle.answers.specs.Given.{Given, gives, refuses, unless_refused}
 use Rattle.answers.specs.declared.Refusal.{Refusal}
@@ -15,24 +15,27 @@ use Rattle.operations.specs.Operation.{byte_is, fence_byte}
 use Rattle.operations.specs.Alphabet.{letter_of}
 use Rattle.image_runs.specs.declared.Stop.{Stop}
 use Rattle.image_runs.specs.declared.Move.{Move}
-use Rattle.image_runs.specs.declared.Step.{Step}
 use Rattle.places.specs.Layout.{accesses, position}
 use Rattle.barred.specs.Barred.{states_of, upstream_fences_of}
 use Rattle.layout.specs.Verdict.{verdict_of}
 
+-- what a state answers: a move, or why the run stops
+abbrev pub Step : Type 0
+Step = Result Move Stop
+
 -- an access whose entry has this fence byte and this next state
 abbrev pub access_step : ℕ → ℕ → Step
 access_step fence next =
-    cond (eqb fence 254) (Step.Stopped Stop.NoFenceWillDo)
-    (Step.Taken (cond (eqb fence 255) (Move.Plain next) (Move.Fenced (fence_byte fence) next)))
+    cond (eqb fence 254) (Err Stop.NoFenceWillDo)
+    (Ok (cond (eqb fence 255) (Move.Plain next) (Move.Fenced (fence_byte fence) next)))
 
 -- what a state answers to a byte of the stream
 abbrev pub step_as : List ℕ → ℕ → Option Operation → Step
-step_as image s None = Step.Stopped Stop.NoOperation
+step_as image s None = Err Stop.NoOperation
 step_as image s (Some (Operation.Access k)) =
     access_step (at image (position 1 s (2 * letter_of k))) (at image (position 1 s (2 * letter_of k + 1)))
 step_as image s (Some (Operation.Fence f)) =
-    cond (ltb f (upstream_fences_of image)) (Step.Taken (Move.Passed (at image (position 1 s (2 * accesses 1 + f))))) (Step.Stopped Stop.NoSuchFence)
+    cond (ltb f (upstream_fences_of image)) (Ok (Move.Passed (at image (position 1 s (2 * accesses 1 + f))))) (Err Stop.NoSuchFence)
 
 unfoldable pub step_at : List ℕ → ℕ → ℕ → Step
 step_at image s b = step_as image s (byte_is b)
@@ -64,8 +67,8 @@ walked_on k put n (ended out m s) = ended (put ++ out) (n + m) s
 walked_on k put n (stopped why i) = stopped why (k + i)
 
 abbrev pub resumed : ℕ → (ℕ → Walked) → Step → Walked
-resumed b rest (Step.Stopped why) = stopped why 0
-resumed b rest (Step.Taken m) = walked_on 1 (puts b m) (inserts m) (rest (leads m))
+resumed b rest (Err why) = stopped why 0
+resumed b rest (Ok m) = walked_on 1 (puts b m) (inserts m) (rest (leads m))
 
 -- the run of a stream from a state
 unfoldable pub walked : List ℕ → ℕ → List ℕ → Walked
@@ -93,7 +96,7 @@ stream_limit = 4096
 
 abbrev pub run_as : List ℕ → ℕ → List ℕ → Verdict → Given
 run_as image start stream verdict =
-    unless_refused verdict
+    unless_refused verdict λ _.
     (cond (ltb start (states_of image))
     (cond (leb (length stream) stream_limit) (outcome_of (walked image start stream)) (refuses Refusal.OverLimit))
     (refuses Refusal.OutOfRange))

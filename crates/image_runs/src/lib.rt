@@ -1,17 +1,16 @@
 // The run of a stream over an image.
 #![tactic(auto)]
 
-ghost use Rattle.std.specs.Prelude.{◌+◌, ◌*◌, ◌^◌, ◌<◌, ◌≤◌, ◌≡◌, length};
+ghost use Rattle.std.specs.Prelude.{◌+◌, ◌*◌, ◌^◌, ◌<◌, ◌≤◌, ◌≡◌, length, Some, Ok};
 ghost use Rattle.answers.specs.Given.{Delivers};
-ghost use Rattle.operations.specs.declared.Byte.{Option<Operation>};
 ghost use Rattle.operations.specs.declared.Operation.{Operation};
 ghost use Rattle.image_runs.specs.Run.{access_step, step_as, step_at, walked, refusal_of, outcome_of, stream_limit, run_as, run_over};
 ghost use Rattle.image_runs.specs.inner.Walking.{Small, Moved, Ends};
 
-use answers::{Answer, Refusal, Verdict};
+use answers::{Answer, Refusal};
 use layout::verdict;
 use operations::alphabet::ACCESSES;
-use operations::{Option<Operation>, Kind, Operation, alphabet};
+use operations::{Kind, Operation, alphabet};
 
 // The limit of a stream.
 const LIMIT: usize = 4096;
@@ -32,11 +31,8 @@ pub enum Move {
     Fenced(u8, usize),
 }
 
-#[derive(Clone, Copy)]
-pub enum Step {
-    Taken(Move),
-    Stopped(Stop),
-}
+// What a state answers to a byte: a move, or why the run stops.
+pub type Step = Result<Move, Stop>;
 
 // An access whose entry has this fence byte and this next state.
 fn access_step(fence: usize, next: usize) -> Step
@@ -44,17 +40,17 @@ fn access_step(fence: usize, next: usize) -> Step
     ensures { (result ≡ access_step fence next) × Small result }
 {
     if fence == 254 {
-        return Step::Stopped(Stop::NoFenceWillDo);
+        return Err(Stop::NoFenceWillDo);
     }
     if fence == 255 {
-        return Step::Taken(Move::Plain(next));
+        return Ok(Move::Plain(next));
     }
-    Step::Taken(Move::Fenced(operations::byte_of(Operation::Fence(fence)), next))
+    Ok(Move::Fenced(operations::byte_of(Operation::Fence(fence)), next))
 }
 
 fn take_access(image: &[u8], state: usize, kind: Kind) -> Step
     requires { state < 256 }
-    ensures { (result ≡ step_as image.now state (Byte.Is (Operation.Access kind))) × Small result }
+    ensures { (result ≡ step_as image.now state (Some (Operation.Access kind))) × Small result }
 {
     let at = places::entry_start(state as u8) + 2 * alphabet::letter_of(kind);
     let fence = ground::number_at(image, at);
@@ -64,18 +60,18 @@ fn take_access(image: &[u8], state: usize, kind: Kind) -> Step
 
 fn take_fence(image: &[u8], state: usize, f: usize) -> Step
     requires { state < 256 }
-    ensures { (result ≡ step_as image.now state (Byte.Is (Operation.Fence f))) × Small result }
+    ensures { (result ≡ step_as image.now state (Some (Operation.Fence f))) × Small result }
 {
     if ground::number_at(image, 5) <= f {
-        return Step::Stopped(Stop::NoSuchFence);
+        return Err(Stop::NoSuchFence);
     }
     let next = ground::number_at(image, places::entry_start(state as u8) + (2 * ACCESSES + f));
-    Step::Taken(Move::Passed(next))
+    Ok(Move::Passed(next))
 }
 
 fn take(image: &[u8], state: usize, operation: Operation) -> Step
     requires { state < 256 }
-    ensures { (result ≡ step_as image.now state (Byte.Is operation)) × Small result }
+    ensures { (result ≡ step_as image.now state (Some operation)) × Small result }
 {
     match operation {
         Operation::Access(kind) => take_access(image, state, kind),
@@ -83,14 +79,14 @@ fn take(image: &[u8], state: usize, operation: Operation) -> Step
     }
 }
 
+#[tactic(auto, unfolding(crate::specs::Run::step_at))]
 fn take_byte(image: &[u8], state: usize, byte: u8) -> Step
     requires { state < 256 }
     ensures { (result ≡ step_at image.now state byte) × Small result }
 {
-    let read = operations::read_byte(byte);
-    match read {
+    match operations::read_byte(byte) {
         Some(operation) => take(image, state, operation),
-        None => Step::Stopped(Stop::NoOperation),
+        None => Err(Stop::NoOperation),
     }
 }
 
@@ -100,12 +96,6 @@ struct Progress {
     written: usize,
     fences: usize,
     state: usize,
-}
-
-#[derive(Drop)]
-enum Ending {
-    Ended(Progress),
-    Stopped(Stop, usize),
 }
 
 // Puts out what a move puts out for a byte.
@@ -141,7 +131,7 @@ fn put(p: Progress, byte: u8, taken: Move, room: &mut [u8]) -> Progress
 }
 
 // The run from a state, its output to the front of `room`.
-fn run_all<'a>(image: &'a [u8], start: usize, stream: &'a [u8], room: &mut [u8]) -> Ending
+fn run_all<'a>(image: &'a [u8], start: usize, stream: &'a [u8], room: &mut [u8]) -> Result<Progress, Refusal>
     requires { (start < 256) × (length stream.now ≤ stream_limit) × (length room.old ≡ 2 * stream_limit) }
     ensures { Ends (walked image.now start stream.now) result room.new }
 {
@@ -153,16 +143,13 @@ fn run_all<'a>(image: &'a [u8], start: usize, stream: &'a [u8], room: &mut [u8])
     let mut i = 0;
     while i < stream.len() {
         let byte = stream[i];
-        let step = take_byte(image, p.state, byte);
-        match step {
-            Step::Stopped(why) => return Ending::Stopped(why, i),
-            Step::Taken(taken) => {
-                p = put(p, byte, taken, room);
-            }
+        match take_byte(image, p.state, byte) {
+            Err(why) => return Err(refusal(why, i)),
+            Ok(taken) => p = put(p, byte, taken, room),
         }
         i += 1;
     }
-    Ending::Ended(p)
+    Ok(p)
 }
 
 fn refusal(why: Stop, i: usize) -> Refusal
@@ -181,19 +168,14 @@ fn run_from<'a>(image: &'a [u8], start: usize, stream: &'a [u8], out: &mut [u8])
     ensures { Delivers (outcome_of (walked image.now start stream.now)) out.old result out.new }
 {
     let mut room = [0u8; 2 * LIMIT];
-    let ending = run_all(image, start, stream, &mut room);
-    match ending {
-        Ending::Stopped(why, i) => Err(refusal(why, i)),
-        Ending::Ended(p) => {
-            let n = p.written;
-            answers::write_out(&room[..n], p.fences, p.state, out)
-        }
-    }
+    let p = run_all(image, start, stream, &mut room)?;
+    let n = p.written;
+    answers::write_out(&room[..n], p.fences, p.state, out)
 }
 
 // Over an image that is accepted.
 fn run_accepted<'a>(image: &'a [u8], start: u64, stream: &'a [u8], out: &mut [u8]) -> Answer
-    ensures { Delivers (run_as image.now start stream.now Verdict.Accepted) out.old result out.new }
+    ensures { Delivers (run_as image.now start stream.now (Ok tt)) out.old result out.new }
 {
     let states = ground::number_at(image, 4);
     if states as u64 <= start {
@@ -206,12 +188,10 @@ fn run_accepted<'a>(image: &'a [u8], start: u64, stream: &'a [u8], out: &mut [u8
 }
 
 // Runs a stream over an image from a state.
+#[tactic(auto, unfolding(crate::specs::Run::run_over))]
 pub fn run<'a>(image: &'a [u8], start: u64, stream: &'a [u8], out: &mut [u8]) -> Answer
     ensures { Delivers (run_over image.now start stream.now) out.old result out.new }
 {
-    let verdict = verdict::examine(image);
-    match verdict {
-        Err(why) => Err(why),
-        Ok(()) => run_accepted(image, start, stream, out),
-    }
+    verdict::examine(image)?;
+    run_accepted(image, start, stream, out)
 }

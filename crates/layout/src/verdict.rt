@@ -1,5 +1,5 @@
 // What is wrong with an image, and where.
-ghost use Rattle.std.specs.Prelude.{◌<◌, ◌≤◌, ◌≡◌, length};
+ghost use Rattle.std.specs.Prelude.{◌<◌, ◌≤◌, ◌≡◌, length, None};
 ghost use Rattle.places.specs.Layout.{limit};
 ghost use Rattle.barred.specs.Barred.{target_fences_of};
 ghost use Rattle.layout.specs.Verdict.{block_count, lowest_barred, stages, verdict_of};
@@ -66,7 +66,7 @@ fn lowest_barred(image: &[u8]) -> Option<usize>
 
 // What is wrong with an image whose blocks are right.
 fn examine_bytes(image: &[u8]) -> Verdict
-    ensures { result ≡ stages Found.Nowhere (lowest_barred image.now) }
+    ensures { result ≡ stages None (lowest_barred image.now) }
 {
     let byte = lowest_barred(image);
     match byte {

@@ -20,7 +20,7 @@ use Rattle.printing.specs.Putting.{Put, Fronts}
 use Rattle.printing.proofs.Names.{unfilled_short}
 use Rattle.printing.proofs.Putting.{put_fronts}
 use Rattle.shims.specs.declared.Models.{Models}
-use Rattle.shims.specs.declared.Opening.{Opening}
+use Rattle.shims.specs.Opening.{Opening}
 use Rattle.shims.specs.Models.{model_of}
 use Rattle.shims.specs.Opening.{opened_by}
 use Rattle.shims.proofs.Theorems.{opens}

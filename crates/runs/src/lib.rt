@@ -12,7 +12,7 @@ ghost use Rattle.runs.specs.inner.Laying.{turned, laid, given, Fits, Ends};
 ghost use Rattle.runs.specs.inner.Moves.{moved, moves, moved_by, asked, for_shim};
 
 use answers::{Answer, Refusal, Verdict};
-use operations::{Option<Operation>, Kind, Operation};
+use operations::{Kind, Operation};
 use rule::situation::Situation;
 use rule::way::{Shim, Step};
 use shims::Models;

@@ -1,5 +1,4 @@
 pub mod Calls
 pub mod Fences
-pub mod Stages
 pub mod Theorems
 pub mod Unique

@@ -7,7 +7,7 @@ use lib.ListN.{take}
 use Rattle.rule.specs.declared.way.Shim.{Shim}
 use Rattle.rule.specs.declared.way.Way.{Way}
 use Rattle.shims.specs.declared.Models.{Models}
-use Rattle.shims.specs.declared.Opening.{Opening}
+use Rattle.shims.specs.Opening.{Opening}
 use Rattle.shims.specs.Models.{shim_between}
 use Rattle.shims.specs.Opening.{way_of, opened_by, opened}
 

@@ -1,30 +1,27 @@
 -- Document 01: "Order: way ..; upstream text (1, 2, 3); target text; ..", and 12: "a way .. is out of range". A way's number is that of an
 -- image, "the way (0 sparing, 1 full)".
-use Rattle.std.specs.Prelude.{ℕ, ◌≡◌, cond, List, eqb, Option, Some, None, Ok, Err}
+use Rattle.std.specs.Prelude.{ℕ, ◌≡◌, cond, List, eqb, Option, Some, None, Result, Ok, Err}
 use Rattle.answers.specs.declared.Refusal.{Refusal}
-use Rattle.answers.specs.Answer.{Verdict}
 use Rattle.answers.specs.Given.{Given, unless_refused, GivenUnless}
 use Rattle.rule.specs.declared.way.Way.{Way}
 use Rattle.models.specs.declared.model.Model.{Model}
 use Rattle.models.specs.Told.{Reading}
-use Rattle.models.specs.Told as reader
 use Rattle.models.specs.Reading.{reading}
 use Rattle.models.specs.Told.{accepting}
 use Rattle.shims.specs.declared.Models.{Models}
-use Rattle.shims.specs.declared.Opening.{Opening}
 
 abbrev pub way_of : ℕ → Option Way
 way_of n = cond (eqb n 0) (Some Way.Sparing) (cond (eqb n 1) (Some Way.Full) None)
 
--- opened with these models, or refused with nothing
-abbrev pub opening : Models → Opening
-opening models = record { verdict = (Ok tt); models = models }
+-- opened with these models, or refused
+abbrev pub Opening : Type 0
+Opening = Result Models Refusal
 
-abbrev pub nothing : Models
-nothing = record { way = Way.Sparing; upstream = reader.nothing; target = reader.nothing }
+abbrev pub opening : Models → Opening
+opening models = Ok models
 
 abbrev pub refusing : Refusal → Opening
-refusing why = record { verdict = Err why; models = nothing }
+refusing why = Err why
 
 -- the stages: each goes on, or is the call's refusal
 
@@ -32,12 +29,9 @@ abbrev pub on_way : Option Way → (Way → Opening) → Opening
 on_way (Some way) more = more way
 on_way None more = refusing Refusal.OutOfRange
 
-abbrev pub on_verdict : Verdict → Opening → Opening
-on_verdict (Ok tt) more = more
-on_verdict (Err why) more = refusing why
-
 abbrev pub on_reading : Reading → (Model → Opening) → Opening
-on_reading r more = on_verdict r.verdict (more r.model)
+on_reading (Ok m) more = more m
+on_reading (Err why) more = refusing why
 
 -- with the upstream model read; with the way read or not; the whole
 abbrev pub on_target : Way → Model → List ℕ → Opening
@@ -59,7 +53,7 @@ pub record Opens (read : Option Way) (upstream target : List ℕ) (models : Mode
 -- What a call gives that opens so: it goes on with the models, or is the opening's refusal. The same where what is given is told by a property.
 
 abbrev pub on_opened : Opening → (Models → Given) → Given
-on_opened o more = unless_refused o.verdict (more o.models)
+on_opened o more = unless_refused o more
 
 abbrev pub GivenOnOpened : Opening → (Models → Given → Type 0) → Given → Type 0
-GivenOnOpened o More = GivenUnless o.verdict (More o.models)
+GivenOnOpened o More = GivenUnless o More

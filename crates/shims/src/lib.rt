@@ -2,21 +2,13 @@
 // text, in this order, stand here for every call that takes them.
 #![tactic(auto)]
 
-ghost use Rattle.std.specs.Prelude.{◌≡◌, take};
-ghost use Rattle.shims.specs.Opening.{way_of, refusing, on_target, opened_by, opened};
+ghost use Rattle.std.specs.Prelude.{◌≡◌, take, Some};
+ghost use Rattle.shims.specs.Opening.{way_of, opened_by, opened};
 ghost use Rattle.shims.specs.Models.{shim_between};
 
-use answers::{Refusal, Verdict};
-use models::model::{Model, Name};
+use answers::Refusal;
+use models::model::Model;
 use rule::way::{Shim, Way};
-use tables::table::Table;
-
-// What a way's number names.
-#[derive(Clone, Copy)]
-pub enum WayRead {
-    Is(Way),
-    Nothing,
-}
 
 // What a shim stands between, and how it chooses.
 #[derive(Clone, Copy)]
@@ -26,14 +18,11 @@ pub struct Models {
     pub target: Model,
 }
 
-// An enum may hold no array, so the models stand beside the verdict. Where the call is refused they hold nothing.
-#[derive(Clone, Copy)]
-pub struct Opening {
-    pub verdict: Verdict,
-    pub models: Models,
-}
+// What a call opens with.
+pub type Opening = Result<Models, Refusal>;
 
-pub fn way_of(number: u64) -> WayRead
+// The way that a number names, if it names one.
+pub fn way_of(number: u64) -> Option<Way>
     ensures { result ≡ way_of number }
 {
     match number {
@@ -70,60 +59,23 @@ pub fn shim_between(models: Models) -> Shim
     }
 }
 
-fn refuse(why: Refusal) -> Opening
-    ensures { result ≡ refusing why }
-{
-    let nothing = models::held::bare_model(Name { bytes: [0; 16] }, Table::NONE);
-    Opening {
-        verdict: Err(why),
-        models: Models {
-            way: Way::Sparing,
-            upstream: nothing,
-            target: nothing,
-        },
-    }
-}
-
-// With the upstream model read.
-fn read_target(way: Way, upstream: Model, target: &[u8]) -> Opening
-    ensures { result ≡ on_target way upstream target.now }
-{
-    let read = models::reader::read(target);
-    let verdict = read.verdict;
-    let model = read.model;
-    match verdict {
-        Err(why) => refuse(why),
-        Ok(()) => Opening {
-            verdict: Ok(()),
-            models: Models {
-                way,
-                upstream,
-                target: model,
-            },
-        },
-    }
-}
-
 // With the way read.
 pub fn read_texts<'a>(way: Way, upstream: &'a [u8], target: &'a [u8]) -> Opening
-    ensures { result ≡ opened_by (WayRead.Is way) upstream.now target.now }
+    ensures { result ≡ opened_by (Some way) upstream.now target.now }
 {
-    let read = models::reader::read(upstream);
-    let verdict = read.verdict;
-    let model = read.model;
-    match verdict {
-        Err(first) => refuse(first),
-        Ok(()) => read_target(way, model, target),
-    }
+    let upstream = models::reader::read(upstream)?;
+    let target = models::reader::read(target)?;
+    Ok(Models {
+        way,
+        upstream,
+        target,
+    })
 }
 
 // The way, the upstream model and the target model, or the first refusal among them.
 pub fn read_both<'a>(way: u64, upstream: &'a [u8], target: &'a [u8]) -> Opening
     ensures { result ≡ opened way upstream.now target.now }
 {
-    let read = way_of(way);
-    match read {
-        None => refuse(Refusal::OutOfRange),
-        Some(is) => read_texts(is, upstream, target),
-    }
+    let way = way_of(way).ok_or(Refusal::OutOfRange)?;
+    read_texts(way, upstream, target)
 }

@@ -1,6 +1,5 @@
 -- Document 01: "Each model has exactly one text." Reading what was written gives the model again, and writing what was read gives the text
 -- again. Assumes nothing.
-use Rattle.std.proofs.Common.{Ok, Err}
 use Prim.Native.Nat.{ℕ, zero, suc, ◌-◌}
 use mathlib.Core.Path.{◌≡◌, refl, sym, ap, ap₂, ◌∙◌, subst}
 use mathlib.Core.Bool.{Bool, cond}
@@ -12,7 +11,6 @@ use lib.ListN.{length, replicate}
 use Rattle.ground.specs.Bytes.{name_byte}
 use Rattle.ground.proofs.Truths.{differ}
 use Rattle.answers.specs.declared.Refusal.{Refusal}
-use Rattle.answers.specs.Answer.{Verdict}
 use Rattle.printing.specs.Name.{unfilled}
 use Rattle.models.specs.declared.model.Name.{Name}
 use Rattle.models.specs.declared.model.Model.{Model}
@@ -59,17 +57,19 @@ pub written_read : (t : List ℕ) (m : Model) → reading t ≡ accepting m → 
 written_read t m e = by (told t) e
   where
     wrong : (why : Refusal) → refusing why ≡ accepting m → text_of (described m) ≡ t
-    wrong why z = let f : Err why ≡ (Ok tt) = ap (λ (r : Reading). r.verdict) z in differ (cc)
+    wrong why z = differ (cc)
 
     by : {r : Reading} → Told t r → r ≡ accepting m → text_of (described m) ≡ t
     by (over l) z = wrong Refusal.OverLimit z
     by (departs {k = k} l none h) z = wrong (Refusal.NotOfTheForm k) z
     by (repeated d k l h is r) z = wrong _ z
     by (accepted d l h is alone) z =
-        ap (λ (r : Reading). text_of (described r.model)) (sym z) ∙ ap text_of (described_held d h) ∙ sym is
+        let same : held d ≡ m = cc in
+        ap (λ (x : Model). text_of (described x)) (sym same) ∙ ap text_of (described_held d h) ∙ sym is
 
 -- two models with one text are one model
 pub text_one : (c d : Description) → Formed c → Formed d → Distinct c → Distinct d → text_of c ≡ text_of d → c ≡ d
 text_one c d hc hd ac ad e =
-    let same : accepting (held c) ≡ accepting (held d) = sym (read_written c hc ac) ∙ ap reading e ∙ read_written d hd ad in
-    sym (described_held c hc) ∙ ap (λ (r : Reading). described r.model) same ∙ described_held d hd
+    let told : accepting (held c) ≡ accepting (held d) = sym (read_written c hc ac) ∙ ap reading e ∙ read_written d hd ad in
+    let same : held c ≡ held d = cc in
+    sym (described_held c hc) ∙ ap described same ∙ described_held d hd

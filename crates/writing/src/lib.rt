@@ -8,7 +8,7 @@ ghost use Rattle.models.specs.Text.{text_of};
 ghost use Rattle.writing.specs.Writing.{described};
 ghost use Rattle.writing.specs.Calls.{reading_given, back_given};
 
-use answers::{Answer, Verdict};
+use answers::Answer;
 use models::model::{Model, Reading};
 
 // The model's text in the buffer, or nothing where it does not fit.
@@ -24,12 +24,7 @@ pub fn write(model: Model, out: &mut [u8]) -> Answer
 pub fn write_reading(r: Reading, out: &mut [u8]) -> Answer
     ensures { Delivers (reading_given r) out.old result out.new }
 {
-    let verdict = r.verdict;
-    let model = r.model;
-    match verdict {
-        Err(why) => Err(why),
-        Ok(()) => write(model, out),
-    }
+    write(r?, out)
 }
 
 // Reads a text and writes it back.

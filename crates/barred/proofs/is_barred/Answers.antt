@@ -17,7 +17,7 @@ is_barred_name-requires-in-TargetName c =
 
 pub is_barred_next-requires : goal.is_barred_next-requires
 is_barred_next-requires c =
-    let s = stands_at_lem _ _ _ c.stands_at-place.ensures c.in-Ok.is in
+    let s = stands_at_lem _ _ _ c.stands_at-place.ensures c.in-Next.is in
     omega arith
 
 pub returns-in-Number : goal.returns-in-Number
@@ -68,10 +68,10 @@ returns-in-Fence c =
     barred_as_lem _ _ _ _ _ _ c.number_at-value.ensures.0 c.stands_at-place.ensures
     c.in-Fence.is c.is_barred_fence.ensures
 
-pub returns-in-Ok : goal.returns-in-Ok
-returns-in-Ok c =
+pub returns-in-Next : goal.returns-in-Next
+returns-in-Next c =
     barred_as_lem _ _ _ _ _ _ c.number_at-value.ensures.0 c.stands_at-place.ensures
-    c.in-Ok.is c.is_barred_next.ensures
+    c.in-Next.is c.is_barred_next.ensures
 
 pub returns-in-FenceNext : goal.returns-in-FenceNext
 returns-in-FenceNext c =

@@ -1,11 +1,12 @@
 use mathlib.Core.Path.{◌∙◌}
 use native.Mathlib.Omega.{arith}
 use Rattle.image_runs.proofs.Runs.{going_on, going_stops, going_ends}
+use Rattle.image_runs.proofs.Endings.{ends_refused}
 use Rattle.image_runs.proofs.run_all.Goals as goal
 
-pub returns-in-Stopped : goal.returns-in-Stopped
-returns-in-Stopped c =
-    going_stops _ _ _ _ _ _ c.loop-i.invariant.2 _ c.loop-i-test.true c.take_byte-step.ensures.0 _ c.in-Stopped.is
+pub returns-in-Err : goal.returns-in-Err
+returns-in-Err c =
+    ends_refused _ c.loop-i.room _ _ _ (going_stops _ _ _ _ _ _ c.loop-i.invariant.2 _ c.loop-i-test.true c.take_byte.ensures.0 _ c.in-Err.is) c.refusal.ensures
 
 pub loop-i-preserved : goal.loop-i-preserved
 loop-i-preserved c =
@@ -13,8 +14,8 @@ loop-i-preserved c =
     let i = c.loop-i.invariant in (
       omega arith,
       u.size ∙ i.1,
-      going_on _ _ _ _ _ _ i.2 _ c.loop-i-test.true c.take_byte-step.ensures.0 _ _ _ c.in-Taken.is
-          c.take_byte-step.ensures.1 u,
+      going_on _ _ _ _ _ _ i.2 _ c.loop-i-test.true c.take_byte.ensures.0 _ _ _ c.in-Ok.is
+          c.take_byte.ensures.1 u,
     )
 
 pub returns : goal.returns

@@ -1,15 +1,16 @@
 -- A run while it goes on: what each turn of its loop keeps, and what it leaves.
-use Rattle.std.specs.Prelude.{ℕ, ◌+◌, ◌*◌, ◌<◌, ◌≤◌, ◌≡◌, List, ◌++◌, length, take, drop}
+use Rattle.std.specs.Prelude.{ℕ, ◌+◌, ◌*◌, ◌<◌, ◌≤◌, ◌≡◌, List, ◌++◌, length, take, drop, Result, Ok, Err}
+use Rattle.answers.specs.declared.Refusal.{Refusal}
+use Rattle.answers.specs.Given.{refuses}
 use Rattle.image_runs.specs.declared.Move.{Move}
-use Rattle.image_runs.specs.declared.Step.{Step}
+use Rattle.image_runs.specs.Run.{Step}
 use Rattle.image_runs.specs.declared.Progress.{Progress}
-use Rattle.image_runs.specs.declared.Ending.{Ending}
-use Rattle.image_runs.specs.Run.{puts, inserts, leads, Walked, ended, stopped, walked_on, walked}
+use Rattle.image_runs.specs.Run.{puts, inserts, leads, Walked, ended, walked_on, walked, outcome_of}
 
 -- where a step leads is a byte
 abbrev pub Small : Step → Type 0
-Small (Step.Taken m) = leads m < 256
-Small (Step.Stopped why) = Unit {0}
+Small (Ok m) = leads m < 256
+Small (Err why) = Unit {0}
 
 -- what a move for the byte b makes of a run's progress and of the bytes put out
 pub record Moved (p : Progress) (b : ℕ) (m : Move) (room : List ℕ) (r : Progress) (room' : List ℕ) : Type 0 where
@@ -27,6 +28,6 @@ pub record Going (image : List ℕ) (start : ℕ) (stream : List ℕ) (p : Progr
   pub so_far : walked image start stream ≡ walked_on k (take p.written room) p.fences (walked image p.state (drop k stream))
 
 -- the ending of a run whose output stands at the front of a list
-abbrev pub Ends : Walked → Ending → List ℕ → Type 0
-Ends r (Ending.Ended p) room = (p.written ≤ length room) × (r ≡ ended (take p.written room) p.fences p.state)
-Ends r (Ending.Stopped why i) room = r ≡ stopped why i
+abbrev pub Ends : Walked → Result Progress Refusal → List ℕ → Type 0
+Ends r (Ok p) room = (p.written ≤ length room) × (r ≡ ended (take p.written room) p.fences p.state)
+Ends r (Err why) room = outcome_of r ≡ refuses why

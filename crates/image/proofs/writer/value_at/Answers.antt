@@ -22,7 +22,7 @@ fence_of-requires c =
 
 pub next_of-requires : goal.next_of-requires
 next_of-requires c =
-    let s = stands_at_lem _ _ _ c.stands_at-place.ensures c.in-Ok.is in
+    let s = stands_at_lem _ _ _ c.stands_at-place.ensures c.in-Next.is in
     (omega arith, omega arith)
 
 pub overflow_add-f : goal.overflow_add-f
@@ -63,9 +63,9 @@ pub returns-in-Fence : goal.returns-in-Fence
 returns-in-Fence c =
     value_as_lem _ _ _ _ _ _ c.stands_at-place.ensures c.in-Fence.is c.fence_of.ensures
 
-pub returns-in-Ok : goal.returns-in-Ok
-returns-in-Ok c =
-    value_as_lem _ _ _ _ _ _ c.stands_at-place.ensures c.in-Ok.is c.next_of.ensures
+pub returns-in-Next : goal.returns-in-Next
+returns-in-Next c =
+    value_as_lem _ _ _ _ _ _ c.stands_at-place.ensures c.in-Next.is c.next_of.ensures
 
 pub returns-in-FenceNext : goal.returns-in-FenceNext
 returns-in-FenceNext c =
