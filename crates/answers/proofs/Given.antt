@@ -11,6 +11,13 @@ use Rattle.answers.specs.Given.{Given, refuses, answer_of, buffer_of, Delivers, 
 pub delivers_refusal : (out : List ℕ) {why : Refusal} → Delivers (refuses why) out (Err why) out
 delivers_refusal out = record { answer = refl; buffer = refl }
 
+-- the same of a refusal that is given, told by an answer
+pub refusal_delivered : (out : List ℕ) {g : Given} {why : Refusal} {a : Answer} → g ≡ refuses why → a ≡ Err why → Delivers g out a out
+refusal_delivered out e told = record {
+  answer = told ∙ sym (ap (λ (x : Given). answer_of x (length out)) e);
+  buffer = sym (ap (λ (x : Given). buffer_of x out) e);
+}
+
 -- the same under another description
 pub delivers_as : {g h : Given} {out after : List ℕ} {r : Answer} → g ≡ h → Delivers g out r after → Delivers h out r after
 delivers_as {out = out} {after = after} {r = r} e d = subst (λ (x : Given). Delivers x out r after) e d

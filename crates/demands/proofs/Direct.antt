@@ -1,9 +1,9 @@
 -- What the direct run of two models gives, in 01's words: bytes where every byte is an operation and the rule accepts them all, and otherwise the
 -- refusal of the first byte at fault. By what the rule's run gives, and the first fault of the bytes. Assumes nothing.
+use Rattle.std.proofs.Common.{Option, None, Some}
 use Prim.Native.Nat.{ℕ, suc, ◌+◌}
 use mathlib.Core.Path.{◌≡◌, refl, sym, ap, ap₂, subst, ◌∙◌}
 use mathlib.Core.List.{List, [], ◌∷◌, ◌++◌, map, append-nil}
-use mathlib.Core.Option.{Option, none, some}
 use native.Mathlib.Omega.{arith}
 use lib.ListN.{length}
 use Rattle.answers.specs.declared.Refusal.{Refusal}
@@ -91,10 +91,10 @@ module _ (m : Models) (stream : List ℕ) where
       by (refused i) r f g =
           let z : i ≡ 0 + i = omega arith in
           subst (λ (k : ℕ). DirectIs m stream (refuses (Refusal.NoFenceWillDo k))) z (at_6 i (stuck i r))
-      by (done out) r none g =
+      by (done out) r None g =
           let a = reads_all n 0 stream g in
           puts_out (record { input = ops; input_read = a.0; input_own = a.1; accepted = r })
-      by (done out) r (some why) g = stopped out r why (faults n 0 stream why g)
+      by (done out) r (Some why) g = stopped out r why (faults n 0 stream why g)
 
   -- the stream up to a byte at which it stops, and from there on
   module _ {place : ℕ} {Fault : ℕ → Stream → Stream → Type 0} (s : StopsAt m stream place Fault) where
@@ -114,7 +114,7 @@ module _ (m : Models) (stream : List ℕ) where
         let none_left : rest_ops ≡ [] =
         ap (λ (x : Judged). operations_from x (operations n (suc (0 + length s.first)) s.rest)) j in
         let whole : ops ≡ s.input = begins.0 ∙ ap (λ (l : Stream). s.input ++ l) none_left ∙ append-nil s.input in
-        let at : fault n 0 stream ≡ some why =
+        let at : fault n 0 stream ≡ Some why =
         begins.1 ∙ ap (λ (x : Judged). fault_from x (fault n (suc (0 + length s.first)) s.rest)) j in
         ap₂ (λ (r : Ran) (f : Option Refusal). outcome_of 0 r f) (ap ran whole ∙ s.accepted) at
 
@@ -124,7 +124,7 @@ module _ (m : Models) (stream : List ℕ) where
   is_direct (puts_out {output = out} a) =
       let t = read_then n 0 stream a.input [] a.input_read a.input_own in
       let whole : ops ≡ a.input = ap (operations n 0) (sym (append-nil stream)) ∙ t.0 ∙ append-nil a.input in
-      let none-at : fault n 0 stream ≡ none = ap (fault n 0) (sym (append-nil stream)) ∙ t.1 in
+      let none-at : fault n 0 stream ≡ None = ap (fault n 0) (sym (append-nil stream)) ∙ t.1 in
       ap₂ (λ (r : Ran) (f : Option Refusal). outcome_of 0 r f) (ap ran whole ∙ a.accepted) none-at
   is_direct (at_4 place s) =
       stops_so s (judging.no_operation s.fault) ∙ ap (λ (k : ℕ). refuses (Refusal.NoOperation k)) s.index

@@ -1,11 +1,10 @@
 -- When a listing is refused, in 01's words: what its call gives is followed through its stages, each of which goes on or gives its refusal; and what
 -- 01 says of an input tells at which of them it is refused. Assumes nothing.
-use Rattle.std.proofs.Common.{Option, Some, Ok, Err}
+use Rattle.std.proofs.Common.{Option, Some, Ok, Err, None}
 use Prim.Native.Nat.{ℕ, ◌<◌, ◌≤◌}
 use mathlib.Core.Path.{◌≡◌, refl, sym, ap, subst, ◌∙◌}
 use mathlib.Core.Bool.{Bool, true, false, cond}
 use mathlib.Core.List.{List, map}
-use mathlib.Core.Option.{Option, none, some}
 use native.Mathlib.Omega.{arith}
 use borrow.Author.Tests.{ltb-true, ltb-false, lt-ltb, le-ltb}
 use lib.Dec.{ltb}
@@ -160,11 +159,11 @@ shape_given : {input : List ℕ} {g : Given} → Listed input g → length input
 shape_given (over k) l = absurd (omega arith)
 shape_given (within k s) l = s
 
-shapeless_given : {q : Option Parts} {g : Given} → ShapeListed q g → q ≡ none → g ≡ refuses (Refusal.NotOfTheForm 0)
+shapeless_given : {q : Option Parts} {g : Given} → ShapeListed q g → q ≡ None → g ≡ refuses (Refusal.NotOfTheForm 0)
 shapeless_given listed.shapeless e = refl
 shapeless_given (shaped s) e = differ (cc)
 
-parts_given : {p : Parts} {q : Option Parts} {g : Given} → ShapeListed q g → q ≡ some p → PartsListed p g
+parts_given : {p : Parts} {q : Option Parts} {g : Given} → ShapeListed q g → q ≡ Some p → PartsListed p g
 parts_given listed.shapeless e = differ (cc)
 parts_given {p} {g = g} (shaped {p = r} h) e =
     let same : r ≡ p = cc in

@@ -1,10 +1,9 @@
 -- A stream of bytes and its operations: as long as each byte is an operation of the upstream model they go side by side, byte by byte, and where that
 -- ends the fault stands. Assumes nothing.
-use Rattle.std.proofs.Common.{Option, Some}
+use Rattle.std.proofs.Common.{Option, Some, None}
 use Prim.Native.Nat.{ℕ, suc, ◌+◌, ◌<◌}
 use mathlib.Core.Path.{◌≡◌, refl, sym, ap, ap₂, subst, ◌∙◌}
 use mathlib.Core.List.{List, [], ◌∷◌, ◌++◌, map}
-use mathlib.Core.Option.{none, some}
 use native.Mathlib.Omega.{arith}
 use lib.ListN.{length}
 use Rattle.ground.proofs.Truths.{differ}
@@ -58,7 +57,7 @@ read_then n at (b ∷ bytes) (op ∷ s) rest e h =
     )
 
 -- Bytes without fault read as their operations, which are the model's.
-pub reads_all : (n at : ℕ) (bytes : List ℕ) → fault n at bytes ≡ none → StreamIn bytes (operations n at bytes) × Below n (operations n at bytes)
+pub reads_all : (n at : ℕ) (bytes : List ℕ) → fault n at bytes ≡ None → StreamIn bytes (operations n at bytes) × Below n (operations n at bytes)
 unfolding operations fault
 reads_all n at [] e = (refl, tt)
 reads_all n at (b ∷ bytes) e = look (judged n at b) refl (λ h. reads_all n (suc at) bytes h) e
@@ -66,8 +65,8 @@ reads_all n at (b ∷ bytes) e = look (judged n at b) refl (λ h. reads_all n (s
     ops : Stream
     ops = operations n (suc at) bytes
 
-    look : (j : Judged) → judged n at b ≡ j → (fault n (suc at) bytes ≡ none → StreamIn bytes ops × Below n ops)
-        → fault_from j (fault n (suc at) bytes) ≡ none
+    look : (j : Judged) → judged n at b ≡ j → (fault n (suc at) bytes ≡ None → StreamIn bytes ops × Below n ops)
+        → fault_from j (fault n (suc at) bytes) ≡ None
         → StreamIn (b ∷ bytes) (operations_from j ops) × Below n (operations_from j ops)
     look (good op) h more z =
         let g = good_is n at b op h in
@@ -85,7 +84,7 @@ pub record FaultAt (n at : ℕ) (bytes : List ℕ) (why : Refusal) : Type 0 wher
   pub below : Below n (operations n at bytes)
   pub at_fault : AtFault n (at + length first) byte why
 
-pub faults : (n at : ℕ) (bytes : List ℕ) (why : Refusal) → fault n at bytes ≡ some why → FaultAt n at bytes why
+pub faults : (n at : ℕ) (bytes : List ℕ) (why : Refusal) → fault n at bytes ≡ Some why → FaultAt n at bytes why
 unfolding operations fault
 faults n at [] why e = differ (cc)
 faults n at (b ∷ bytes) why e = look (judged n at b) refl (λ h. faults n (suc at) bytes why h) e
@@ -96,8 +95,8 @@ faults n at (b ∷ bytes) why e = look (judged n at b) refl (λ h. faults n (suc
     whole : (j : Judged) → judged n at b ≡ j → operations_from (judged n at b) ops ≡ operations_from j ops
     whole j h = ap (λ (x : Judged). operations_from x ops) h
 
-    look : (j : Judged) → judged n at b ≡ j → (fault n (suc at) bytes ≡ some why → FaultAt n (suc at) bytes why)
-        → fault_from j (fault n (suc at) bytes) ≡ some why → FaultAt n at (b ∷ bytes) why
+    look : (j : Judged) → judged n at b ≡ j → (fault n (suc at) bytes ≡ Some why → FaultAt n (suc at) bytes why)
+        → fault_from j (fault n (suc at) bytes) ≡ Some why → FaultAt n at (b ∷ bytes) why
     look (good op) h more z =
         let g = good_is n at b op h in
         let m = more z in

@@ -3,8 +3,7 @@
 -- empty), its fences." "Input over 32,768 bytes prints `refused 1 at 0`, and input not of this shape prints `refused 2 at 0`. Otherwise any refusal
 -- prints only `refused N at K`, with K counted within its own text or stream." "Order: ..; upstream text (1, 2, 3); target text; ..; stream length;
 -- the earliest of 4, 5, 6 in the stream; 8; 9; 7 last."
-use Rattle.std.specs.Prelude.{ℕ, ◌<◌, ◌≤◌, ◌≡◌, List, map, length, take, drop}
-use Rattle.std.proofs.Math.Option.{none, some}
+use Rattle.std.specs.Prelude.{ℕ, ◌<◌, ◌≤◌, ◌≡◌, List, map, length, take, drop, None, Some}
 use Rattle.answers.specs.declared.Refusal.{Refusal}
 use Rattle.operations.specs.Operation.{byte_of, fence_bytes}
 use Rattle.rule.specs.Stream.{Stream}
@@ -26,7 +25,7 @@ use Rattle.demands.specs.DirectRuns.{Accepts, StreamRefused}
 pub record ListDone (input out : List ℕ) (written fences state : ℕ) (after : List ℕ) : Type 0 where
   pub within : length input ≤ 32768
   pub parts : Parts
-  pub shaped : shape input ≡ some parts
+  pub shaped : shape input ≡ Some parts
   pub models : Models
   pub opened : Opened (way_number parts.way) parts.upstream parts.target models
   pub states : ℕ
@@ -44,7 +43,7 @@ pub record ListDone (input out : List ℕ) (written fences state : ℕ) (after :
 -- an input within its limit that is of the shape
 pub record ListShaped (input : List ℕ) (parts : Parts) : Type 0 where
   pub within : length input ≤ 32768
-  pub shaped : shape input ≡ some parts
+  pub shaped : shape input ≡ Some parts
 
 -- whose way and texts are those of two models
 pub record ListOpened (input : List ℕ) (parts : Parts) (m : Models) : Type 0 where
@@ -72,7 +71,7 @@ pub record ListExceeds (m : Models) (output : Stream) (room : ℕ) : Type 0 wher
 -- by the room.
 pub data ListRefused (input : List ℕ) (room : ℕ) : Refusal → Type 0 where
   over_limit : 32768 < length input → ListRefused input room Refusal.OverLimit
-  shapeless : length input ≤ 32768 → shape input ≡ none → ListRefused input room (Refusal.NotOfTheForm 0)
+  shapeless : length input ≤ 32768 → shape input ≡ None → ListRefused input room (Refusal.NotOfTheForm 0)
   opening : {p : Parts} {why : Refusal} → ListShaped input p → OpeningRefused (way_number p.way) p.upstream p.target why
       → ListRefused input room why
   at_stream : {p : Parts} {m : Models} {why : Refusal} → ListOpened input p m → StreamRefused m p.stream why → ListRefused input room why

@@ -15,7 +15,7 @@ use Rattle.answers.specs.declared.Refusal.{Refusal}
 use Rattle.answers.specs.declared.Done.{Done}
 use Rattle.answers.specs.Answer.{Answer}
 use Rattle.answers.specs.Given.{Given, gives, refuses, Delivers, unless_refused}
-use Rattle.answers.proofs.Given.{delivers_as}
+use Rattle.answers.proofs.Given.{refusal_delivered, delivers_as}
 use Rattle.answers.specs.Answer.{Verdict}
 use Rattle.operations.specs.Alphabet.{stride}
 use Rattle.image.specs.declared.machine.Header.{Header}
@@ -62,7 +62,7 @@ module _ (image : List ℕ) (bytes : (i : ℕ) → at image i < 256) where
       where
         by : (v : Verdict) → read_by v ≡ Err why → Delivers (unless_refused v λ _. given) out a out
         by (Ok tt) h = differ (cc)
-        by (Err other) h = let same : other ≡ why = cc in record { answer = told ∙ ap Err (sym same); buffer = refl }
+        by (Err other) h = let same : other ≡ why = cc in refusal_delivered out (ap refuses same) told
 
     module _ (h : Header) (e : r ≡ Ok h) where
       pub accepted : verdict_of image ≡ Ok tt

@@ -10,7 +10,7 @@ use Rattle.answers.specs.declared.Refusal.{Refusal}
 use Rattle.answers.specs.Answer.{Answer}
 use Rattle.answers.specs.Answer.{Verdict}
 use Rattle.answers.specs.Given.{gives, refuses, Delivers}
-use Rattle.answers.proofs.Given.{delivers_refusal, delivers_as}
+use Rattle.answers.proofs.Given.{delivers_refusal, refusal_delivered, delivers_as}
 use Rattle.image_runs.specs.declared.Stop.{Stop}
 use Rattle.image_runs.specs.declared.Progress.{Progress}
 use Rattle.barred.specs.Barred.{states_of}
@@ -25,7 +25,7 @@ module _ (r : Walked) (e : Result Progress Refusal) (room : List ℕ) (ends : En
   pub run_refused : (why : Refusal) (out : List ℕ) (a : Answer) → e ≡ Err why → a ≡ Err why → Delivers (outcome_of r) out a out
   run_refused why out a h told =
       let s : outcome_of r ≡ refuses why = subst (λ (y : Result Progress Refusal). Ends r y room) h ends in
-      subst (λ (x : Answer). Delivers (outcome_of r) out x out) (sym told) (delivers_as (sym s) (delivers_refusal out))
+      refusal_delivered out s told
 
   pub run_fits : (p : Progress) → e ≡ Ok p → p.written ≤ length room
   run_fits p h = (subst (λ (y : Result Progress Refusal). Ends r y room) h ends).0

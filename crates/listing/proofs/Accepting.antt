@@ -4,7 +4,6 @@ use Rattle.std.proofs.Common.{Option, Some, Ok}
 use Prim.Native.Nat.{ℕ, ◌-◌, ◌≤◌, ◌<◌}
 use mathlib.Core.Path.{◌≡◌, refl, subst}
 use mathlib.Core.List.{List}
-use mathlib.Core.Option.{Option, some}
 use native.Mathlib.Omega.{arith}
 use lib.ListN.{length, replicate, length-append, length-replicate}
 use Rattle.ground.proofs.Truths.{differ}
@@ -38,7 +37,7 @@ module _ (input text : List ℕ) (fences state : ℕ) where
   abbrev Accepts : Type 0
   Accepts = AcceptedInput input text fences state
 
-  by_machine : length input ≤ 32768 → (p : Parts) → shape input ≡ some p → (m : Models)
+  by_machine : length input ≤ 32768 → (p : Parts) → shape input ≡ Some p → (m : Models)
       → Opens (Some p.way) p.upstream p.target m → {output : List ℕ} → run_given m p.stream ≡ puts output
       → {g : Given} → MachineListed m output g → g ≡ gives text fences state → Accepts
   by_machine l p s m o r (crowded h) e = differ (cc)
@@ -61,13 +60,13 @@ module _ (input text : List ℕ) (fences state : ℕ) where
         no_state = cc;
       }
 
-  by_models : length input ≤ 32768 → (p : Parts) → shape input ≡ some p → (m : Models)
+  by_models : length input ≤ 32768 → (p : Parts) → shape input ≡ Some p → (m : Models)
       → Opens (Some p.way) p.upstream p.target m → {g : Given} → ModelsListed m p.stream g
       → g ≡ gives text fences state → Accepts
   by_models l p s m o (halts r) e = differ (cc)
   by_models l p s m o (runs r h) e = by_machine l p s m o r h e
 
-  by_parts : length input ≤ 32768 → (p : Parts) → shape input ≡ some p → PartsListed p (gives text fences state) → Accepts
+  by_parts : length input ≤ 32768 → (p : Parts) → shape input ≡ Some p → PartsListed p (gives text fences state) → Accepts
   by_parts l p s h =
       let read = opened_by (Some p.way) p.upstream p.target in
       let o = given_opened read (λ (m : Models). ModelsListed m p.stream) text fences state h in

@@ -1,8 +1,8 @@
 -- What an input is listed as is determined: the stages exclude each other, and what its parts are listed as is one. Assumes nothing.
+use Rattle.std.proofs.Common.{Option}
 use Prim.Native.Nat.{ℕ}
 use mathlib.Core.Path.{◌≡◌, refl}
 use mathlib.Core.List.{List}
-use mathlib.Core.Option.{Option}
 use native.Mathlib.Omega.{arith}
 use Rattle.answers.specs.Given.{Given}
 use Rattle.listed.specs.Parts.{Parts}

@@ -4,7 +4,6 @@ use Prim.Native.Nat.{ℕ, ◌+◌, ◌-◌, ◌<◌}
 use mathlib.Core.Path.{◌≡◌, refl, sym, ap, ap₂, subst, ◌∙◌}
 use mathlib.Core.Bool.{Bool, true, false, ◌&&◌, cond}
 use mathlib.Core.List.{List, [], ◌∷◌}
-use mathlib.Core.Option.{none, some}
 use native.Mathlib.Omega.{arith}
 use borrow.Author.Tests.{leb-true}
 use lib.Dec.{eqb, leb}
@@ -59,10 +58,10 @@ run_long t e = by (leb 5 (length t)) refl e
 
 -- the way's line and the rest
 module _ {t : List ℕ} {n : ℕ} (line : LineOf t n) where
-  pub way_not : way_in (take n t) ≡ None → ending_of (lines t) ≡ none
+  pub way_not : way_in (take n t) ≡ None → ending_of (lines t) ≡ None
   way_not e = ap ending_of line.first ∙ by (lines (drop n t))
     where
-      by : (xs : List (List ℕ)) → ending_of (take n t ∷ xs) ≡ none
+      by : (xs : List (List ℕ)) → ending_of (take n t ∷ xs) ≡ None
       by [] = refl
       by (r ∷ []) = ap (λ (w : Option Way). ending_from w r) e
       by (r ∷ x ∷ xs) = refl
@@ -82,9 +81,9 @@ module _ {t : List ℕ} {n : ℕ} (line : LineOf t n) where
         whole =
             ap ending_of (line.first ∙ ap (λ (x : List (List ℕ)). take n t ∷ x) r.only)
             ∙ ap (λ (w : Option Way). ending_from w (drop n t)) (sym e)
-            ∙ ap (λ (q : Bool). cond q (some (record { way = way; stream = stream_of (drop n t) })) none) r.run
-            ∙ ap₂ (λ (m : ℕ) (s : List ℕ). some (record { way = way; stream = take m s })) k (drop-drop 4 n t);
+            ∙ ap (λ (q : Bool). cond q (Some (record { way = way; stream = stream_of (drop n t) })) None) r.run
+            ∙ ap₂ (λ (m : ℕ) (s : List ℕ). Some (record { way = way; stream = take m s })) k (drop-drop 4 n t);
       }
 
-  pub ending_not : OnlyRun (take (length t - n) (drop n t)) false → ending_of (lines t) ≡ none
+  pub ending_not : OnlyRun (take (length t - n) (drop n t)) false → ending_of (lines t) ≡ None
   ending_not h = ap ending_of line.first ∙ subst (λ (x : List ℕ). OnlyRun x false) (part_rest t n) h (take n t)

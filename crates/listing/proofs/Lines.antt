@@ -4,7 +4,6 @@ use Prim.Native.Nat.{ℕ, zero, suc, ◌+◌, ◌-◌, ◌≤◌, ◌<◌}
 use mathlib.Core.Path.{◌≡◌, refl, sym, ap, ap₂, subst, ◌∙◌}
 use mathlib.Core.Bool.{Bool, true, false, ◌&&◌, cond}
 use mathlib.Core.List.{List, [], ◌∷◌, ◌++◌, append_assoc}
-use mathlib.Core.Option.{Option, none, some}
 use native.Mathlib.Omega.{arith}
 use native.Mathlib.Nat.{le_of_suc-le-suc}
 use borrow.Author.Tests.{eq-eqb, ne_eqb}
@@ -49,7 +48,7 @@ only_line (b ∷ l) h = by (eqb b 10) h (only_line l)
     by true h rest = absurd (omega arith)
     by false h rest = ap (prefixed b) (rest (le_of_suc-le-suc h)) ∙ prefixed_whole b l
 
--- and none of its bytes is one
+-- and None of its bytes is one
 no_feed : (l : List ℕ) (i : ℕ) → length l ≤ index_of 10 l → i < length l → get_or l i 0 ≡ 10 → ⊥
 unfolding index_of index_after
 no_feed [] i h li e = absurd (omega arith)
@@ -85,20 +84,20 @@ module _ (l : List ℕ) (h : length l ≤ index_of 10 l) where
       ap (λ (q : Bool). leb 5 (length l) && (same_bytes (take 4 l) (bytes "run ") && q)) (ne_eqb _ _ (no_feed l (length l - 1) h (omega arith)))
       ∙ and_never (leb 5 (length l)) (same_bytes (take 4 l) (bytes "run "))
 
-pub never_ending : (w : Option Way) (r : List ℕ) → is_run r ≡ false → ending_from w r ≡ none
+pub never_ending : (w : Option Way) (r : List ℕ) → is_run r ≡ false → ending_from w r ≡ None
 never_ending (Some way) r e = rw e
 never_ending None r e = refl
 
-through_whole : (l : List ℕ) → length l ≤ index_of 10 l → through (whole l) ≡ none
+through_whole : (l : List ℕ) → length l ≤ index_of 10 l → through (whole l) ≡ None
 unfolding through
 through_whole [] h = refl
 through_whole (b ∷ l) h = rw (not_end (b ∷ l) h)
 
-ending_whole : (l : List ℕ) → ending_of (whole l) ≡ none
+ending_whole : (l : List ℕ) → ending_of (whole l) ≡ None
 ending_whole [] = refl
 ending_whole (b ∷ l) = refl
 
-ending_unended : (l : List ℕ) → length l ≤ index_of 10 l → (w : List ℕ) → ending_of (w ∷ whole l) ≡ none
+ending_unended : (l : List ℕ) → length l ≤ index_of 10 l → (w : List ℕ) → ending_of (w ∷ whole l) ≡ None
 ending_unended [] h w = refl
 ending_unended (b ∷ l) h w = never_ending (way_in w) (b ∷ l) (not_run (b ∷ l) h (omega arith))
 
@@ -124,11 +123,11 @@ line_endless t n e h =
 -- what a line with its line feed says of the text that it begins
 module _ {t : List ℕ} {n : ℕ} (line : LineOf t n) where
   by_line : (q : Bool) → same_bytes (take n t) (bytes "end\n") ≡ q
-      → through (lines t) ≡ cond q (some (record { text = take n t; rest = lines (drop n t) })) (joined (take n t) (through (lines (drop n t))))
+      → through (lines t) ≡ cond q (Some (record { text = take n t; rest = lines (drop n t) })) (joined (take n t) (through (lines (drop n t))))
   unfolding through
   by_line q e =
       ap through line.first
-      ∙ ap (λ (q : Bool). cond q (some (record { text = take n t; rest = lines (drop n t) })) (joined (take n t) (through (lines (drop n t))))) e
+      ∙ ap (λ (q : Bool). cond q (Some (record { text = take n t; rest = lines (drop n t) })) (joined (take n t) (through (lines (drop n t))))) e
 
   pub line_last : same_bytes (take n t) (bytes "end\n") ≡ true → TextOf t n
   line_last e = record { inside = line.inside; whole = by_line true e }
@@ -138,12 +137,12 @@ module _ {t : List ℕ} {n : ℕ} (line : LineOf t n) where
 
 -- a text found from a place on, line after line
 joined_joined : (x y : List ℕ) (c : Option Cut) → joined x (joined y c) ≡ joined (x ++ y) c
-joined_joined x y none = refl
-joined_joined x y (some c) = ap (λ (t : List ℕ). some (record { text = t; rest = c.rest })) (sym (append_assoc x y c.text))
+joined_joined x y None = refl
+joined_joined x y (Some c) = ap (λ (t : List ℕ). Some (record { text = t; rest = c.rest })) (sym (append_assoc x y c.text))
 
 joined_none : (c : Option Cut) → joined [] c ≡ c
-joined_none none = refl
-joined_none (some c) = refl
+joined_none None = refl
+joined_none (Some c) = refl
 
 abbrev pub SoFar : List ℕ → ℕ → Type 0
 SoFar t at = through (lines t) ≡ joined (take at t) (through (lines (drop at t)))
@@ -164,10 +163,10 @@ module _ (t : List ℕ) (at : ℕ) (so : SoFar t at) where
         inside = omega (arith, f.inside, length-drop at t);
         whole =
             so ∙ ap (joined (take at t)) f.whole
-            ∙ ap₂ (λ (x y : List ℕ). some (record { text = x; rest = lines y })) (sym (take-add at n t)) (drop-drop n at t);
+            ∙ ap₂ (λ (x y : List ℕ). Some (record { text = x; rest = lines y })) (sym (take-add at n t)) (drop-drop n at t);
       }
 
-  pub no_text_found : through (lines (drop at t)) ≡ none → through (lines t) ≡ none
+  pub no_text_found : through (lines (drop at t)) ≡ None → through (lines t) ≡ None
   no_text_found e = so ∙ ap (joined (take at t)) e
 
 -- what is left of a text from a place on, as a part of it

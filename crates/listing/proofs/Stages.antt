@@ -1,9 +1,8 @@
 -- The stages of the call, each once it is known how it goes: what was found computes the shape. Assumes nothing.
-use Rattle.std.proofs.Common.{Err}
+use Rattle.std.proofs.Common.{Err, Option, None, Some}
 use Prim.Native.Nat.{ℕ, ◌-◌, ◌≤◌, ◌<◌}
 use mathlib.Core.Path.{◌≡◌, sym, ap, subst, ◌∙◌}
 use mathlib.Core.List.{List}
-use mathlib.Core.Option.{Option, none, some}
 use lib.ListN.{length, take, drop}
 use Rattle.answers.specs.declared.Refusal.{Refusal}
 use Rattle.answers.specs.Answer.{Answer}
@@ -19,11 +18,11 @@ module _ {o : Option Parts} {out after : List ℕ} {r : Answer} where
   pub shape_as : {q : Option Parts} → o ≡ q → Answers (ShapeListed q) out r after → Answers (ShapeListed o) out r after
   shape_as e a = answers_by (λ g h. subst (λ (q : Option Parts). ShapeListed q g) (sym e) h) a
 
-  pub shape_some : {p : Parts} → o ≡ some p → Answers (PartsListed p) out r after → Answers (ShapeListed o) out r after
+  pub shape_some : {p : Parts} → o ≡ Some p → Answers (PartsListed p) out r after → Answers (ShapeListed o) out r after
   shape_some e a = shape_as e (answers_by (λ g h. shaped h) a)
 
-pub shape_none : {o : Option Parts} (out : List ℕ) → o ≡ none → Answers (ShapeListed o) out (Err (Refusal.NotOfTheForm 0)) out
-shape_none out e = shape_as e (answers_refusal (ShapeListed none) out shapeless)
+pub shape_none : {o : Option Parts} (out : List ℕ) → o ≡ None → Answers (ShapeListed o) out (Err (Refusal.NotOfTheForm 0)) out
+shape_none out e = shape_as e (answers_refusal (ShapeListed None) out shapeless)
 
 -- the target's text found in what follows the upstream's, and the upstream's in the input
 pub target_found : (u t : List ℕ) {n : ℕ} → TextOf t n

@@ -2,7 +2,6 @@
 -- stream". "In the input a model text runs through the first line that is exactly `end`, and the `way` and `run` lines each end in a line feed
 -- with nothing after."
 use Rattle.std.specs.Prelude.{ℕ, ◌-◌, Bool, ◌&&◌, cond, List, [], ◌∷◌, ◌++◌, eqb, leb, length, get_or, take, drop, Option, Some, None}
-use Rattle.std.proofs.Math.Option.{Option, none, some}
 use Rattle.ground.specs.Bytes.{bytes, same_bytes}
 use Rattle.rule.specs.declared.way.Way.{Way}
 use Rattle.listed.specs.Parts.{Parts}
@@ -22,13 +21,13 @@ pub record Cut : Type 0 where
   pub rest : List (List ℕ)
 
 abbrev pub joined : List ℕ → Option Cut → Option Cut
-joined x none = none
-joined x (some c) = some (record { text = x ++ c.text; rest = c.rest })
+joined x None = None
+joined x (Some c) = Some (record { text = x ++ c.text; rest = c.rest })
 
 -- the text through the first line that is exactly `end`
 unfoldable pub through : List (List ℕ) → Option Cut
-through [] = none
-through (x ∷ xs) = cond (same_bytes x (bytes "end\n")) (some (record { text = x; rest = xs })) (joined x (through xs))
+through [] = None
+through (x ∷ xs) = cond (same_bytes x (bytes "end\n")) (Some (record { text = x; rest = xs })) (joined x (through xs))
 
 abbrev pub way_in : List ℕ → Option Way
 way_in x =
@@ -48,27 +47,27 @@ pub record Ending : Type 0 where
   pub stream : List ℕ
 
 abbrev pub ending_from : Option Way → List ℕ → Option Ending
-ending_from (Some way) r = cond (is_run r) (some (record { way = way; stream = stream_of r })) none
-ending_from None r = none
+ending_from (Some way) r = cond (is_run r) (Some (record { way = way; stream = stream_of r })) None
+ending_from None r = None
 
 abbrev pub ending_of : List (List ℕ) → Option Ending
-ending_of [] = none
-ending_of (w ∷ []) = none
+ending_of [] = None
+ending_of (w ∷ []) = None
 ending_of (w ∷ r ∷ []) = ending_from (way_in w) r
-ending_of (w ∷ r ∷ x ∷ xs) = none
+ending_of (w ∷ r ∷ x ∷ xs) = None
 
 -- the parts of an input of the shape
 abbrev pub with_ending : List ℕ → List ℕ → Option Ending → Option Parts
-with_ending upstream target none = none
-with_ending upstream target (some e) = some (record { upstream = upstream; target = target; way = e.way; stream = e.stream })
+with_ending upstream target None = None
+with_ending upstream target (Some e) = Some (record { upstream = upstream; target = target; way = e.way; stream = e.stream })
 
 abbrev pub with_target : List ℕ → Option Cut → Option Parts
-with_target upstream none = none
-with_target upstream (some c) = with_ending upstream c.text (ending_of c.rest)
+with_target upstream None = None
+with_target upstream (Some c) = with_ending upstream c.text (ending_of c.rest)
 
 abbrev pub with_upstream : Option Cut → Option Parts
-with_upstream none = none
-with_upstream (some c) = with_target c.text (through c.rest)
+with_upstream None = None
+with_upstream (Some c) = with_target c.text (through c.rest)
 
 abbrev pub shape : List ℕ → Option Parts
 shape input = with_upstream (through (lines input))

@@ -1,8 +1,8 @@
 -- The direct run byte by byte is the direct run by the rule: each byte does what its operation does, and a fault ends both. Assumes nothing.
+use Rattle.std.proofs.Common.{Option, None, Some}
 use Prim.Native.Nat.{ℕ, suc, ◌+◌}
 use mathlib.Core.Path.{◌≡◌, refl, sym, ap, ap₂, ◌∙◌}
 use mathlib.Core.List.{List, [], ◌∷◌, ◌++◌, map, map-append}
-use mathlib.Core.Option.{Option, none, some}
 use native.Mathlib.Omega.{arith}
 use lib.ListN.{length}
 use Rattle.answers.specs.declared.Refusal.{Refusal}
@@ -28,8 +28,8 @@ outcome_behind : (at : ℕ) (p : Stream) (x : Ran) (f : Option Refusal) → outc
 outcome_behind at p (refused i) f =
     let e : at + suc i ≡ suc at + i = omega arith in
     ap (λ (n : ℕ). refuses (Refusal.NoFenceWillDo n)) e
-outcome_behind at p (done out) none = ap puts (map-append byte_of p out) ∙ sym (ahead_puts (map byte_of p) (map byte_of out))
-outcome_behind at p (done out) (some why) = refl
+outcome_behind at p (done out) None = ap puts (map-append byte_of p out) ∙ sym (ahead_puts (map byte_of p) (map byte_of out))
+outcome_behind at p (done out) (Some why) = refl
 
 module _ (way : Way) (up target : Model) where
   by_step : (at b : ℕ) (k : Kind) (f : Option Refusal) (ops : Stream) (more : Situation → Given) → access_byte k ≡ b

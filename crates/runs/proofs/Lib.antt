@@ -5,3 +5,4 @@ pub mod Judging
 pub mod Longest
 pub mod Running
 pub mod Unique
+pub mod Ending

@@ -5,7 +5,6 @@ use Prim.Native.Nat.{ℕ, suc, ◌-◌, ◌*◌, ◌<◌, ◌≤◌}
 use mathlib.Core.Path.{◌≡◌, refl, sym, ap, ◌∙◌}
 use mathlib.Core.Bool.{false}
 use mathlib.Core.List.{List, [], ◌∷◌, ◌++◌, map}
-use mathlib.Core.Option.{Option, none, some}
 use native.Mathlib.Omega.{arith}
 use lib.ListN.{length, length-append, length-map}
 use Rattle.ground.proofs.Truths.{differ, true_false}
@@ -95,8 +94,8 @@ module _ (way : Way) (up target : Model) (stream : List ℕ) {bytes : List ℕ} 
       by : (r : Ran) → run way up target ops ≡ r → (f : Option Refusal) → outcome_of 0 r f ≡ gives bytes count state
           → Done way up target stream bytes count state
       by (refused i) r f e = differ (cc)
-      by (done out) r (some why) e = differ (cc)
-      by (done out) r none e =
+      by (done out) r (Some why) e = differ (cc)
+      by (done out) r None e =
           let same : map byte_of out ≡ bytes = cc in
           let fenced : fence_bytes (map byte_of out) ≡ count = cc in
           let ended : 0 ≡ state = cc in

@@ -1,4 +1,5 @@
 -- The run of a stream, turn by turn: what is laid so far and what is left to run are the whole run. Assumes nothing.
+use Rattle.std.proofs.Common.{Result, Ok, Err}
 use Prim.Native.Nat.{ℕ, ◌+◌, ◌*◌, ◌≤◌, ◌<◌}
 use mathlib.Core.Path.{◌≡◌, refl, sym, ap, subst, ◌∙◌}
 use mathlib.Core.List.{List, [], ◌∷◌, ◌++◌, append-nil, append_assoc}
@@ -6,7 +7,6 @@ use native.Mathlib.Numerals.{add-one}
 use native.Mathlib.Omega.{arith}
 use lib.ListN.{length, get_or, take, drop, set, length-set, drop_of_length-le}
 use lib.Seq.{drop-cons, take-suc-set}
-use Rattle.ground.proofs.Truths.{differ}
 use Rattle.answers.specs.declared.Refusal.{Refusal}
 use Rattle.answers.specs.Given.{Given, refuses}
 use Rattle.operations.specs.Operation.{fence_byte}
@@ -15,10 +15,8 @@ use Rattle.rule.specs.declared.way.Shim.{Shim}
 use Rattle.rule.specs.Situation.{fresh}
 use Rattle.runs.proofs.Ahead.{ahead_none, ahead_puts, ahead_ahead}
 use Rattle.runs.specs.Bytes.{puts}
-use Rattle.runs.specs.declared.Ended.{Ended}
 use Rattle.runs.specs.declared.Move.{Move}
 use Rattle.runs.specs.declared.Progress.{Progress}
-use Rattle.runs.specs.declared.Turn.{Turn}
 use Rattle.runs.specs.inner.Laying.{turned, laid, Ends}
 use Rattle.runs.specs.inner.Moves.{moved, ahead, moves_on, moves, for_shim}
 
@@ -45,7 +43,7 @@ module _ (shim : Shim) (fences targets stream : List ℕ) where
   abbrev byte : ℕ → ℕ
   byte at = get_or stream at 0
 
-  abbrev pub move : Situation → ℕ → Move
+  abbrev pub move : Situation → ℕ → Result Move Refusal
   move s at = for_shim moved shim fences targets s at (byte at)
 
   -- where the run has come to: before index `at`, in this situation, with so many bytes laid
@@ -68,11 +66,11 @@ module _ (shim : Shim) (fences targets stream : List ℕ) where
         ∙ ap (λ (n : ℕ). ahead (take written buffer) (moves_on (byte at) (from n) (move situation at))) (sym (add-one at))
 
     -- what a byte does once its move is known
-    turns_by : (m : Move) → at < length stream → m ≡ move situation at
+    turns_by : (m : Result Move Refusal) → at < length stream → m ≡ move situation at
         → whole ≡ ahead (take written buffer) (moves_on (byte at) (from (at + 1)) m)
-    turns_by m l e = turns l ∙ ap (λ (x : Move). ahead (take written buffer) (moves_on (byte at) (from (at + 1)) x)) (sym e)
+    turns_by m l e = turns l ∙ ap (λ (x : Result Move Refusal). ahead (take written buffer) (moves_on (byte at) (from (at + 1)) x)) (sym e)
 
-    pub ends : length stream ≤ 4096 → length stream ≤ at → Ends whole (Ended.Done written) buffer
+    pub ends : length stream ≤ 4096 → length stream ≤ at → Ends whole (Ok written) buffer
     unfolding moves
     ends few l =
         record {
@@ -84,17 +82,11 @@ module _ (shim : Shim) (fences targets stream : List ℕ) where
               ∙ ap puts (append-nil (take written buffer));
         }
 
-    stopped : (m : Move) (why : Refusal) → at < length stream → m ≡ move situation at → turned m written ≡ Turn.Stop why → whole ≡ refuses why
-    stopped (Move.Silent next) why l e t = differ (cc)
-    stopped (Move.Plain next) why l e t = differ (cc)
-    stopped (Move.Fenced g next) why l e t = differ (cc)
-    stopped (Move.Refused w) why l e t =
-        let same : w ≡ why = cc in
-        turns_by (Move.Refused w) l e ∙ ap refuses same
-
-    pub stops : (m : Move) (why : Refusal) (after : List ℕ) → at < length stream → m ≡ move situation at → turned m written ≡ Turn.Stop why
-        → Ends whole (Ended.Refused why) after
-    stops m why after l e t = record { fits = tt; is = stopped m why l e t }
+    pub stops : {r : Result Move Refusal} (why : Refusal) (x : Result ℕ Refusal) (after : List ℕ) → at < length stream → r ≡ move situation at
+        → r ≡ Err why → x ≡ Err why → Ends whole x after
+    stops why x after l e h told =
+        subst (λ (x : Result ℕ Refusal). Ends whole x after) (sym told)
+        (record { fits = tt; is = turns_by (Err why) l (sym h ∙ e) })
 
     -- more bytes laid, and the rest of the run
     more : (next : Situation) (n : ℕ) (after bytes : List ℕ) → at < length stream → n ≤ 2 * (at + 1) → length after ≡ length buffer
@@ -114,29 +106,25 @@ module _ (shim : Shim) (fences targets stream : List ℕ) where
     abbrev Goes : List ℕ → Progress → Type 0
     Goes after p = Running p.situation p.written (at + 1) after
 
-    goes : (m : Move) (p : Progress) → at < length stream → length stream ≤ 4096 → m ≡ move situation at → turned m written ≡ Turn.On p
+    goes : (m : Move) (p : Progress) → at < length stream → length stream ≤ 4096 → Ok m ≡ move situation at → turned m written ≡ p
         → Goes (laid m (byte at) written buffer) p
-    goes (Move.Silent next) p l few e t =
-        let q : record { situation = next; written = written } ≡ p = cc in
+    goes (Move.Silent next) p l few e q =
         subst (Goes buffer) q
         (more next written buffer [] l (omega (arith, run.room)) refl (sym (append-nil (take written buffer)))
-        (turns_by (Move.Silent next) l e ∙ ap (ahead (take written buffer)) (sym (ahead_none (from (at + 1) next)))))
-    goes (Move.Plain next) p l few e t =
-        let q : record { situation = next; written = written + 1 } ≡ p = cc in
+        (turns_by (Ok (Move.Silent next)) l e ∙ ap (ahead (take written buffer)) (sym (ahead_none (from (at + 1) next)))))
+    goes (Move.Plain next) p l few e q =
         let after = set buffer written (byte at) in
         subst (Goes after) q
         (more next (written + 1) after (byte at ∷ []) l (omega (arith, run.room)) (length-set buffer written (byte at))
         (laid_one buffer written (byte at) (omega (arith, run.room, run.size)))
-        (turns_by (Move.Plain next) l e))
-    goes (Move.Fenced g next) p l few e t =
-        let q : record { situation = next; written = written + 2 } ≡ p = cc in
+        (turns_by (Ok (Move.Plain next)) l e))
+    goes (Move.Fenced g next) p l few e q =
         let after = set (set buffer written (fence_byte g)) (written + 1) (byte at) in
         subst (Goes after) q
         (more next (written + 2) after (fence_byte g ∷ byte at ∷ []) l (omega (arith, run.room)) (simp length-set)
         (laid_two buffer written (fence_byte g) (byte at) (omega (arith, run.room, run.size)))
-        (turns_by (Move.Fenced g next) l e))
-    goes (Move.Refused w) p l few e t = differ (cc)
+        (turns_by (Ok (Move.Fenced g next)) l e))
 
-    pub goes_on : (m : Move) (p : Progress) (after : List ℕ) → at < length stream → length stream ≤ 4096 → m ≡ move situation at
-        → turned m written ≡ Turn.On p → after ≡ laid m (byte at) written buffer → Goes after p
+    pub goes_on : (m : Move) (p : Progress) (after : List ℕ) → at < length stream → length stream ≤ 4096 → Ok m ≡ move situation at
+        → turned m written ≡ p → after ≡ laid m (byte at) written buffer → Goes after p
     goes_on m p after l few e t b = subst (λ (x : List ℕ). Goes x p) (sym b) (goes m p l few e t)

@@ -2,7 +2,6 @@
 -- each at its index, and "the earliest of 4, 5, 6 in the stream". "Success returns .. fences inserted".
 -- Up to the first byte at fault by 4 or 5 a stream is operations, and these are run by the rule: a refusal there, 6, is earlier.
 use Rattle.std.specs.Prelude.{ℕ, suc, ◌+◌, cond, List, [], ◌∷◌, map, ltb, length, Option, Some, None}
-use Rattle.std.proofs.Math.Option.{Option, none, some}
 use Rattle.answers.specs.declared.Refusal.{Refusal}
 use Rattle.answers.specs.Given.{Given, gives, refuses}
 use Rattle.operations.specs.declared.Operation.{Operation}
@@ -36,10 +35,10 @@ operations n at (b ∷ bytes) = operations_from (judged n at b) (operations n (s
 
 abbrev pub fault_from : Judged → Option Refusal → Option Refusal
 fault_from (good op) rest = rest
-fault_from (bad why) rest = some why
+fault_from (bad why) rest = Some why
 
 unfoldable pub fault : ℕ → ℕ → List ℕ → Option Refusal
-fault n at [] = none
+fault n at [] = None
 fault n at (b ∷ bytes) = fault_from (judged n at b) (fault n (suc at) bytes)
 
 -- what a direct run gives that puts these bytes out: their fences are counted, and there is no end state to tell
@@ -49,8 +48,8 @@ puts bytes = gives bytes (fence_bytes bytes) 0
 -- a run of operations that began at an index of the input, with the fault that ended them
 abbrev pub outcome_of : ℕ → Ran → Option Refusal → Given
 outcome_of at (refused i) f = refuses (Refusal.NoFenceWillDo (at + i))
-outcome_of at (done out) none = puts (map byte_of out)
-outcome_of at (done out) (some why) = refuses why
+outcome_of at (done out) None = puts (map byte_of out)
+outcome_of at (done out) (Some why) = refuses why
 
 -- the direct run of a stream of bytes, by the rule
 unfoldable pub direct : Way → Model → Model → List ℕ → Given

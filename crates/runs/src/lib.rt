@@ -11,19 +11,18 @@ ghost use Rattle.runs.specs.Call.{run_given, outcome};
 ghost use Rattle.runs.specs.inner.Laying.{turned, laid, given, Fits, Ends};
 ghost use Rattle.runs.specs.inner.Moves.{moved, moves, moved_by, asked, for_shim};
 
-use answers::{Answer, Refusal, Verdict};
+use answers::{Answer, Refusal};
 use operations::{Kind, Operation};
 use rule::situation::Situation;
 use rule::way::{Shim, Step};
 use shims::Models;
 
-// What one byte of a stream does: it is passed over, put out with nothing or with a fence before it, or refused.
+// What one byte of a stream does: it is passed over, or put out with nothing or with a fence before it.
 #[derive(Drop)]
 enum Move {
     Silent(Situation),
     Plain(Situation),
     Fenced(usize, Situation),
-    Refused(Refusal),
 }
 
 // How far a run has come: the situation, and how many bytes are put out.
@@ -31,19 +30,6 @@ enum Move {
 struct Progress {
     situation: Situation,
     written: usize,
-}
-
-#[derive(Drop)]
-enum Turn {
-    On(Progress),
-    Stop(Refusal),
-}
-
-// How a run of a stream ends: so many bytes are put out, or it is refused.
-#[derive(Drop)]
-enum Ended {
-    Done(usize),
-    Refused(Refusal),
 }
 
 // How many of these bytes are fences.
@@ -62,36 +48,31 @@ fn fences_in(bytes: &[u8]) -> usize
 fn one_if_fence(byte: u8) -> usize
     ensures { (result ≡ is_fence (byte_is byte)) × (result ≤ 1) }
 {
-    let read = operations::read_byte(byte);
-    match read {
-        None => 0,
-        Some(operation) => match operation {
-            Operation::Access(_) => 0,
-            Operation::Fence(_) => 1,
-        },
+    match operations::read_byte(byte) {
+        Some(Operation::Fence(_)) => 1,
+        _ => 0,
     }
 }
 
 // What an access does, at its index.
-fn access(shim: Shim, targets: &[u64], situation: Situation, at: usize, kind: Kind) -> Move
+fn access(shim: Shim, targets: &[u64], situation: Situation, at: usize, kind: Kind) -> Result<Move, Refusal>
     ensures { result ≡ moved_by at (stepped shim.way shim.upstream (target_of shim targets.now) situation kind) }
 {
-    let step = rule::way::take(shim, targets, situation, kind);
-    match step {
-        Step::Plain(next) => Move::Plain(next),
-        Step::Fenced(g, next) => Move::Fenced(g, next),
-        Step::Refused => Move::Refused(Refusal::NoFenceWillDo(at)),
+    match rule::way::take(shim, targets, situation, kind) {
+        Step::Plain(next) => Ok(Move::Plain(next)),
+        Step::Fenced(g, next) => Ok(Move::Fenced(g, next)),
+        Step::Refused => Err(Refusal::NoFenceWillDo(at)),
     }
 }
 
 // What an upstream fence does, at its index.
-fn ask(fences: &[u64], situation: Situation, at: usize, number: usize) -> Move
+fn ask(fences: &[u64], situation: Situation, at: usize, number: usize) -> Result<Move, Refusal>
     ensures { result ≡ asked fences.now situation at number }
 {
     if number < fences.len() {
-        Move::Silent(situation.asks(rule::way::fence_table(fences, number)))
+        Ok(Move::Silent(situation.asks(rule::way::fence_table(fences, number))))
     } else {
-        Move::Refused(Refusal::NoSuchFence(at))
+        Err(Refusal::NoSuchFence(at))
     }
 }
 
@@ -103,57 +84,50 @@ fn advance<'a>(
     situation: Situation,
     at: usize,
     byte: u8,
-) -> Move
+) -> Result<Move, Refusal>
     ensures { result ≡ for_shim moved shim fences.now targets.now situation at byte }
 {
-    let read = operations::read_byte(byte);
-    match read {
-        None => Move::Refused(Refusal::NoOperation(at)),
-        Some(operation) => match operation {
-            Operation::Access(kind) => access(shim, targets, situation, at, kind),
-            Operation::Fence(number) => ask(fences, situation, at, number),
-        },
+    match operations::read_byte(byte) {
+        None => Err(Refusal::NoOperation(at)),
+        Some(Operation::Access(kind)) => access(shim, targets, situation, at, kind),
+        Some(Operation::Fence(number)) => ask(fences, situation, at, number),
     }
 }
 
 // Lays what a move puts out into the buffer, behind what is there.
-fn lay(step: Move, byte: u8, written: usize, buffer: &mut [u8]) -> Turn
+fn lay(step: Move, byte: u8, written: usize, buffer: &mut [u8]) -> Progress
     requires { written + 1 < length buffer.old }
     ensures answer { result ≡ turned step written }
     ensures buffer { buffer.new ≡ laid step byte written buffer.old }
 {
     match step {
-        Move::Silent(next) => Turn::On(Progress {
-            situation: next,
-            written,
-        }),
-        Move::Plain(next) => {
+        Move::Silent(situation) => Progress { situation, written },
+        Move::Plain(situation) => {
             buffer[written] = byte;
-            Turn::On(Progress {
-                situation: next,
+            Progress {
+                situation,
                 written: written + 1,
-            })
+            }
         }
-        Move::Fenced(g, next) => {
+        Move::Fenced(g, situation) => {
             buffer[written] = operations::byte_of(Operation::Fence(g));
             buffer[written + 1] = byte;
-            Turn::On(Progress {
-                situation: next,
+            Progress {
+                situation,
                 written: written + 2,
-            })
+            }
         }
-        Move::Refused(why) => Turn::Stop(why),
     }
 }
 
-// Runs the stream from the fresh situation, into a buffer that holds two bytes for each operation.
+// Runs the stream from the fresh situation, into a buffer that holds two bytes for each operation, and tells how many bytes are put out.
 fn run_stream<'a>(
     shim: Shim,
     fences: &'a [u64],
     targets: &'a [u64],
     stream: &'a [u8],
     buffer: &mut [u8],
-) -> Ended
+) -> Result<usize, Refusal>
     requires { (length stream.now ≤ 4096) × (length buffer.old ≡ 8192) }
     ensures { Ends (for_shim moves shim fences.now targets.now fresh 0 stream.now) result buffer.new }
 {
@@ -162,32 +136,13 @@ fn run_stream<'a>(
     let mut at = 0;
     while at < stream.len() {
         let byte = stream[at];
-        let step = advance(shim, fences, targets, situation, at, byte);
-        let turn = lay(step, byte, written, buffer);
-        match turn {
-            Turn::Stop(why) => return Ended::Refused(why),
-            Turn::On(next) => {
-                situation = next.situation;
-                written = next.written;
-            }
-        }
+        let step = advance(shim, fences, targets, situation, at, byte)?;
+        let next = lay(step, byte, written, buffer);
+        situation = next.situation;
+        written = next.written;
         at += 1;
     }
-    Ended::Done(written)
-}
-
-// Writes out what a run has laid, or passes its refusal on.
-fn finish(ended: Ended, buffer: &[u8], out: &mut [u8]) -> Answer
-    requires { Fits ended buffer.now }
-    ensures { Delivers (given ended buffer.now) out.old result out.new }
-{
-    match ended {
-        Ended::Done(written) => {
-            let bytes = &buffer[..written];
-            answers::write_out(bytes, fences_in(bytes), 0, out)
-        }
-        Ended::Refused(why) => Err(why),
-    }
+    Ok(written)
 }
 
 // The run of a stream within its limit. It owns the buffer that the run is laid into, so that a refusal writes nothing.
@@ -203,8 +158,9 @@ fn run_within<'a>(
         out.old result out.new }
 {
     let mut buffer = [0u8; 8192];
-    let ended = run_stream(shim, fences, targets, stream, &mut buffer);
-    finish(ended, &buffer, out)
+    let written = run_stream(shim, fences, targets, stream, &mut buffer)?;
+    let bytes = &buffer[..written];
+    answers::write_out(bytes, fences_in(bytes), 0, out)
 }
 
 // The run over two models, as they were read or made.
@@ -235,11 +191,5 @@ pub fn run<'a>(
     ensures { Delivers (outcome way upstream.now target.now stream.now)
         out.old result out.new }
 {
-    let opening = shims::read_both(way, upstream, target);
-    let verdict = opening.verdict;
-    let models = opening.models;
-    match verdict {
-        Err(why) => Err(why),
-        Ok(()) => run_models(models, stream, out),
-    }
+    run_models(shims::read_both(way, upstream, target)?, stream, out)
 }

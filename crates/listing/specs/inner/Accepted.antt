@@ -1,6 +1,5 @@
 -- What a call has done that gives a listing; the theorems of the call are stated with this.
 use Rattle.std.specs.Prelude.{ℕ, ◌≤◌, ◌≡◌, List, length, Some}
-use Rattle.std.proofs.Math.Option.{some}
 use Rattle.shims.specs.declared.Models.{Models}
 use Rattle.shims.specs.Opening.{Opens}
 use Rattle.operations.specs.Operation.{fence_bytes}
@@ -15,7 +14,7 @@ use Rattle.listing.specs.Shape.{shape}
 pub record AcceptedInput (input text : List ℕ) (fences state : ℕ) : Type 0 where
   pub within : length input ≤ 32768
   pub parts : Parts
-  pub shaped : shape input ≡ some parts
+  pub shaped : shape input ≡ Some parts
   pub models : Models
   pub opens : Opens (Some parts.way) parts.upstream parts.target models
   pub output : List ℕ

@@ -1,6 +1,5 @@
 -- How the parts of an input are found, by places.
 use Rattle.std.specs.Prelude.{ℕ, ◌-◌, ◌<◌, ◌≤◌, ◌≡◌, List, [], ◌∷◌, Bool, true, false, length, take, drop, Option, Some, None}
-use Rattle.std.proofs.Math.Option.{none, some as one}
 use Rattle.rule.specs.declared.way.Way.{Way}
 use Rattle.listing.specs.declared.shape.Looked.{Looked}
 use Rattle.listing.specs.declared.shape.Tail.{Tail}
@@ -14,9 +13,9 @@ pub record LineOf (t : List ℕ) (n : ℕ) : Type 0 where
 
 -- there is no line feed: what is left is neither a line `end` nor a run's
 pub record NoLine (t : List ℕ) : Type 0 where
-  pub no_text : through (lines t) ≡ none
-  pub no_ending : ending_of (lines t) ≡ none
-  pub no_run : (w : List ℕ) → ending_of (w ∷ lines t) ≡ none
+  pub no_text : through (lines t) ≡ None
+  pub no_ending : ending_of (lines t) ≡ None
+  pub no_run : (w : List ℕ) → ending_of (w ∷ lines t) ≡ None
 
 abbrev pub LineEnd : List ℕ → Option ℕ → Type 0
 LineEnd t (Some n) = LineOf t n
@@ -25,7 +24,7 @@ LineEnd t None = NoLine t
 -- the text ends with n bytes
 pub record TextOf (t : List ℕ) (n : ℕ) : Type 0 where
   pub inside : n ≤ length t
-  pub whole : through (lines t) ≡ one (record { text = take n t; rest = lines (drop n t) })
+  pub whole : through (lines t) ≡ Some (record { text = take n t; rest = lines (drop n t) })
 
 -- the first n bytes belong to it, and it goes on
 pub record GoesOn (t : List ℕ) (n : ℕ) : Type 0 where
@@ -36,20 +35,20 @@ pub record GoesOn (t : List ℕ) (n : ℕ) : Type 0 where
 abbrev pub Looks : List ℕ → Looked → Type 0
 Looks t (Looked.End n) = TextOf t n
 Looks t (Looked.More n) = GoesOn t n
-Looks t Looked.Nothing = through (lines t) ≡ none
+Looks t Looked.Nothing = through (lines t) ≡ None
 
 abbrev pub TextEnd : List ℕ → Option ℕ → Type 0
 TextEnd t (Some n) = TextOf t n
-TextEnd t None = through (lines t) ≡ none
+TextEnd t None = through (lines t) ≡ None
 
 -- the way, and where the stream begins; it ends before the last byte
 pub record EndingOf (t : List ℕ) (way : Way) (at : ℕ) : Type 0 where
   pub inside : at < length t
-  pub whole : ending_of (lines t) ≡ one (record { way = way; stream = take (length t - 1 - at) (drop at t) })
+  pub whole : ending_of (lines t) ≡ Some (record { way = way; stream = take (length t - 1 - at) (drop at t) })
 
 abbrev pub EndingAt : List ℕ → Tail → Type 0
 EndingAt t (Tail.Of way at) = EndingOf t way at
-EndingAt t Tail.Other = ending_of (lines t) ≡ none
+EndingAt t Tail.Other = ending_of (lines t) ≡ None
 
 -- the run's line is all that is left
 pub record RunOf (t : List ℕ) : Type 0 where
@@ -58,4 +57,4 @@ pub record RunOf (t : List ℕ) : Type 0 where
 
 abbrev pub OnlyRun : List ℕ → Bool → Type 0
 OnlyRun t true = RunOf t
-OnlyRun t false = (w : List ℕ) → ending_of (w ∷ lines t) ≡ none
+OnlyRun t false = (w : List ℕ) → ending_of (w ∷ lines t) ≡ None

@@ -1,5 +1,5 @@
 -- The direct run byte by byte, with the situation of the past: what the code does. It is proved to be the run by the rule.
-use Rattle.std.specs.Prelude.{ℕ, suc, ◌+◌, cond, List, [], ◌∷◌, ◌++◌, ltb, length}
+use Rattle.std.specs.Prelude.{ℕ, suc, ◌+◌, cond, List, [], ◌∷◌, ◌++◌, ltb, length, Result, Ok, Err}
 use Rattle.answers.specs.declared.Refusal.{Refusal}
 use Rattle.answers.specs.Given.{Given, gives, refuses}
 use Rattle.operations.specs.declared.Operation.{Operation}
@@ -15,21 +15,21 @@ use Rattle.runs.specs.declared.Move.{Move}
 use Rattle.runs.specs.Bytes.{Judged, good, bad, judged, puts}
 
 -- what one byte does
-abbrev pub moved_by : ℕ → Step → Move
-moved_by at (Step.Plain next) = Move.Plain next
-moved_by at (Step.Fenced g next) = Move.Fenced g next
-moved_by at Step.Refused = Move.Refused (Refusal.NoFenceWillDo at)
+abbrev pub moved_by : ℕ → Step → Result Move Refusal
+moved_by at (Step.Plain next) = Ok (Move.Plain next)
+moved_by at (Step.Fenced g next) = Ok (Move.Fenced g next)
+moved_by at Step.Refused = Err (Refusal.NoFenceWillDo at)
 
-abbrev pub moved_as : Way → Model → Model → Situation → ℕ → Judged → Move
+abbrev pub moved_as : Way → Model → Model → Situation → ℕ → Judged → Result Move Refusal
 moved_as way up target s at (good (Operation.Access k)) = moved_by at (stepped way up.ppo target s k)
-moved_as way up target s at (good (Operation.Fence f)) = Move.Silent (asks (fence_table up f) s)
-moved_as way up target s at (bad why) = Move.Refused why
+moved_as way up target s at (good (Operation.Fence f)) = Ok (Move.Silent (asks (fence_table up f) s))
+moved_as way up target s at (bad why) = Err why
 
 -- what an upstream fence of this number does
-abbrev pub asked : List ℕ → Situation → ℕ → ℕ → Move
-asked fences s at f = cond (ltb f (length fences)) (Move.Silent (asks (table_at fences f) s)) (Move.Refused (Refusal.NoSuchFence at))
+abbrev pub asked : List ℕ → Situation → ℕ → ℕ → Result Move Refusal
+asked fences s at f = cond (ltb f (length fences)) (Ok (Move.Silent (asks (table_at fences f) s))) (Err (Refusal.NoSuchFence at))
 
-abbrev pub moved : Way → Model → Model → Situation → ℕ → ℕ → Move
+abbrev pub moved : Way → Model → Model → Situation → ℕ → ℕ → Result Move Refusal
 moved way up target s at b = moved_as way up target s at (judged (length up.fences) at b)
 
 -- bytes, and then what follows
@@ -37,11 +37,11 @@ abbrev pub ahead : List ℕ → Given → Given
 ahead bytes (gives rest fences state) = gives (bytes ++ rest) (fence_bytes bytes + fences) state
 ahead bytes (refuses why) = refuses why
 
-abbrev pub moves_on : ℕ → (Situation → Given) → Move → Given
-moves_on b more (Move.Silent next) = more next
-moves_on b more (Move.Plain next) = ahead (b ∷ []) (more next)
-moves_on b more (Move.Fenced g next) = ahead (fence_byte g ∷ b ∷ []) (more next)
-moves_on b more (Move.Refused why) = refuses why
+abbrev pub moves_on : ℕ → (Situation → Given) → Result Move Refusal → Given
+moves_on b more (Ok (Move.Silent next)) = more next
+moves_on b more (Ok (Move.Plain next)) = ahead (b ∷ []) (more next)
+moves_on b more (Ok (Move.Fenced g next)) = ahead (fence_byte g ∷ b ∷ []) (more next)
+moves_on b more (Err why) = refuses why
 
 unfoldable pub moves : Way → Model → Model → Situation → ℕ → List ℕ → Given
 moves way up target s at [] = puts []

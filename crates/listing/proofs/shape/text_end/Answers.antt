@@ -1,7 +1,7 @@
+use Rattle.std.proofs.Common.{None}
 use Prim.Native.Nat.{ℕ, ◌-◌, ◌≤◌}
 use mathlib.Core.Path.{◌≡◌, ap, subst}
 use mathlib.Core.List.{List}
-use mathlib.Core.Option.{none}
 use native.Mathlib.Omega.{arith}
 use lib.ListN.{length, take, drop, length-drop, drop_of_length-le}
 use Rattle.listing.specs.declared.shape.Looked.{Looked}
@@ -14,7 +14,7 @@ use Rattle.listing.proofs.shape.text_end.Goals as goal
 looked : (t : List ℕ) (at : ℕ) {r s : Looked} → r ≡ s → Looks (take (length t - at) (drop at t)) r → Looks (drop at t) s
 looked t at {r} {s} e h = subst (λ (l : List ℕ). Looks l s) (part_rest t at) (subst (Looks (take (length t - at) (drop at t))) e h)
 
-none_left : (t : List ℕ) (at : ℕ) → length t ≤ at → through (lines (drop at t)) ≡ none
+none_left : (t : List ℕ) (at : ℕ) → length t ≤ at → through (lines (drop at t)) ≡ None
 unfolding lines through
 none_left t at l = ap (λ (x : List ℕ). through (lines x)) (drop_of_length-le t l)
 
