@@ -1,10 +1,9 @@
 -- The contract of each public function allows one result: it is an equation, and of `compare_tables` 01's words alone, its other clause, allow one
 -- comparison too, which is the one that the equation says. Assumes nothing.
-use Rattle.std.proofs.Common.{Result}
 use Prim.Native.Nat.{ℕ}
 use mathlib.Core.Path.{◌≡◌, sym, ◌∙◌}
 use mathlib.Core.List.{List}
-use Rattle.answers.specs.declared.Refusal.{Refusal}
+use Rattle.comparison.specs.Comparison.{Compared}
 use Rattle.tables.specs.declared.table.Table.{Table}
 use Rattle.comparison.specs.declared.Comparison.{Comparison}
 use Rattle.comparison.specs.Comparison.{number_of, Compares, comparing}
@@ -16,5 +15,5 @@ number_one self p q = p ∙ sym q
 pub compare_tables_one : (first second : Table) {r r' : Comparison} → Compares first second r → Compares first second r' → r ≡ r'
 compare_tables_one first second p q = compares_is p ∙ sym (compares_is q)
 
-pub compare_one : (first second : List ℕ) {r r' : Result Comparison Refusal} → r ≡ comparing first second → r' ≡ comparing first second → r ≡ r'
+pub compare_one : (first second : List ℕ) {r r' : Compared} → r ≡ comparing first second → r' ≡ comparing first second → r ≡ r'
 compare_one first second p q = p ∙ sym q

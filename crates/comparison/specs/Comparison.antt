@@ -43,14 +43,18 @@ comparison a b =
     cond (at_least a b) (cond (at_least b a) Comparison.Equal Comparison.FirstStronger)
     (cond (at_least b a) Comparison.SecondStronger Comparison.Neither)
 
+-- what a comparison answers
+abbrev pub Compared : Type 0
+Compared = Result Comparison Refusal
+
 -- the refusals of the first text, then of the second, then the comparison
-abbrev pub compared_both : Table → Reading → Result Comparison Refusal
+abbrev pub compared_both : Table → Reading → Compared
 compared_both a (Ok m) = Ok (comparison a m.ppo)
 compared_both a (Err why) = Err why
 
-abbrev pub compared_first : Reading → Reading → Result Comparison Refusal
+abbrev pub compared_first : Reading → Reading → Compared
 compared_first (Ok m) s = compared_both m.ppo s
 compared_first (Err why) s = Err why
 
-unfoldable pub comparing : List ℕ → List ℕ → Result Comparison Refusal
+unfoldable pub comparing : List ℕ → List ℕ → Compared
 comparing t u = compared_first (reading t) (reading u)

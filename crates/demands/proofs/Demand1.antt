@@ -1,13 +1,14 @@
 -- Demand 1: "Every public call takes every text, stream, image, number and buffer, of length nought too, stays within bounds and ends." That is
 -- what a proof of a function in Rattle says, and no public function has a `requires`. "Bad input is refused by the number and place that document
 -- 01 gives; a refused call writes nothing": here, of the answers and the buffers. Assumes nothing.
-use Rattle.std.proofs.Common.{Ok, Err, Result}
+use Rattle.std.proofs.Common.{Ok, Err}
 use Prim.Native.Nat.{ℕ, ◌≤◌}
 use mathlib.Core.Path.{◌≡◌, refl, ap, subst}
 use mathlib.Core.Logic.{◌↔◌}
 use mathlib.Core.List.{List, [], ◌∷◌, map}
 use native.Mathlib.Omega.{arith}
 use lib.ListN.{length, take, drop, length-map}
+use Rattle.comparison.specs.Comparison.{Compared}
 use Rattle.ground.proofs.Truths.{differ}
 use Rattle.answers.specs.declared.Refusal.{Refusal}
 use Rattle.answers.specs.Answer.{Answer, done}
@@ -220,7 +221,7 @@ built_in_refused_exactly_when number {out} {after = after} call why = (
 -- Two models compare as 01 says, refusals too, and in no other way: the number that the call returns, its relation and its five numbers are those of
 -- the one thing that the two texts compare as.
 pub compare_told : (first second : List ℕ) {number relation : ℕ} {numbers : List ℕ} → TellsRelation (comparing first second) number relation numbers
-    → (compared : Result Comparison Refusal) × TextsCompare first second compared × ((other : Result Comparison Refusal) → TextsCompare first second other → compared ≡ other)
+    → (compared : Compared) × TextsCompare first second compared × ((other : Compared) → TextsCompare first second other → compared ≡ other)
     × (number ≡ number_in (compared_as compared)) × (relation ≡ relation_of compared) × (numbers ≡ numbers_of (compared_as compared))
 compare_told first second call = (
   comparing first second,

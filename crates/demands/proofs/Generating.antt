@@ -1,6 +1,6 @@
 -- What a call gives that generates an image, in 01's words: its opening's refusal, 8 or 9, or the image of the minimal machine. By the stages of
 -- the call and what the machine's contract says. Assumes nothing.
-use Rattle.std.proofs.Common.{Ok, Err, Result}
+use Rattle.std.proofs.Common.{Ok, Err}
 use Prim.Native.Nat.{ℕ, ◌+◌, ◌-◌, ◌*◌, ◌/◌, ◌%◌, ◌<◌}
 use mathlib.Core.Path.{◌≡◌, refl, sym, ap, subst, subst₂, ◌∙◌}
 use mathlib.Core.Bool.{false}
@@ -11,6 +11,7 @@ use native.Mathlib.Omega.{arith}
 use borrow.Author.Tests.{lt-ltb, le-ltb, ne_eqb}
 use lib.Dec.{eqb}
 use lib.ListN.{length, take}
+use Rattle.machine.specs.Outcome.{Outcome}
 use Rattle.ground.specs.Bytes.{at}
 use Rattle.ground.proofs.Truths.{differ}
 use Rattle.answers.specs.declared.Refusal.{Refusal}
@@ -153,7 +154,7 @@ module _ {number : ℕ} {upstream target : List ℕ} {m : Models} (o : Opened nu
         refusal why (unmade.overfull f h) e = subst (MachineIs m) (sym e) (overfull (as_9.0 e).0 (as_9.0 e).1)
         refusal why (unmade.roomless f k d s) e = absurd (never_7 m g given e)
 
-        by : (x : Result Machine Refusal) → MachineMade m blank x given.rows → g ≡ given_by x m given.rows → MachineIs m g
+        by : (x : Outcome) → MachineMade m blank x given.rows → g ≡ given_by x m given.rows → MachineIs m g
         by (Err why) h e = refusal why h.generated.0 e
         by (Ok x) h e =
             let bytes = image_of (header_for x m) given.rows in

@@ -5,6 +5,7 @@ use Prim.Native.Nat.{ℕ}
 use mathlib.Core.Path.{sym, ap, subst, ◌∙◌}
 use mathlib.Core.List.{List}
 use lib.ListN.{take}
+use Rattle.rule.specs.declared.way.Way.{Way}
 use Rattle.answers.specs.Answer.{Answer, done}
 use Rattle.answers.specs.Given.{Answers}
 use Rattle.rule.specs.Rule.{way_number}

@@ -1,6 +1,6 @@
 -- What is given by the calls that take a model's text or a built-in's number, in 01's words: what is read of a text is what 01 tells of it, and a
 -- number is in range or not. Assumes nothing.
-use Rattle.std.proofs.Common.{Ok, Err, Result}
+use Rattle.std.proofs.Common.{Ok, Err}
 use Prim.Native.Nat.{ℕ, ◌<◌, ◌≤◌}
 use mathlib.Core.Path.{◌≡◌, refl, sym, ap, subst, ◌∙◌}
 use mathlib.Core.List.{List}
@@ -8,6 +8,7 @@ use native.Mathlib.Decide.{dec_lt}
 use native.Mathlib.Omega.{arith}
 use borrow.Author.Tests.{lt-ltb, le-ltb}
 use lib.ListN.{length}
+use Rattle.comparison.specs.Comparison.{Compared}
 use Rattle.ground.proofs.Truths.{differ}
 use Rattle.answers.specs.declared.Refusal.{Refusal}
 use Rattle.answers.specs.Answer.{Verdict}
@@ -88,7 +89,7 @@ compared_told first second = by (reading first).verdict refl
     by (Err why) e = first_refused (told_refused first e)
     by (Ok tt) e = both (told_accepted first e) (reading second).verdict refl
 
-pub told_compared : (first second : List ℕ) {c : Result Comparison Refusal} → TextsCompare first second c → comparing first second ≡ c
+pub told_compared : (first second : List ℕ) {c : Compared} → TextsCompare first second c → comparing first second ≡ c
 unfolding comparing
 told_compared first second (first_refused t) = ap (λ (r : Reading). compared_first r.verdict r.model.ppo (reading second)) (sym (told_is t))
 told_compared first second (second_refused {a = a} t u) =

@@ -1,7 +1,8 @@
 -- The calls that take a model's text or a built-in's number, as their caller sees them. Document 01: 12, "a .. built-in number is out of range";
 -- "text (1, 2, 3)"; "7 last". "Two models are compared by their ppo: equal, first stronger, second stronger, or neither; stronger means no cell
 -- lower and some cell higher."
-use Rattle.std.specs.Prelude.{ℕ, ◌<◌, ◌≤◌, List, length, Result, Ok, Err}
+use Rattle.std.specs.Prelude.{ℕ, ◌<◌, ◌≤◌, List, length, Ok, Err}
+use Rattle.comparison.specs.Comparison.{Compared}
 use Rattle.answers.specs.declared.Refusal.{Refusal}
 use Rattle.models.specs.declared.model.Model.{Model}
 use Rattle.models.specs.Text.{text_of}
@@ -21,7 +22,7 @@ pub data BuiltInRefused (number room : ℕ) : Refusal → Type 0 where
   too_small : number ≤ 15 → room < length (text_of (built_in number)) → BuiltInRefused number room Refusal.BufferTooSmall
 
 -- what two texts compare as: the first one's refusal, then the second one's, then how their default tables compare
-pub data TextsCompare (first second : List ℕ) : Result Comparison Refusal → Type 0 where
+pub data TextsCompare (first second : List ℕ) : Compared → Type 0 where
   first_refused : {why : Refusal} → Told first (refusing why) → TextsCompare first second (Err why)
   second_refused : {a : Model} {why : Refusal} → Told first (accepting a) → Told second (refusing why)
       → TextsCompare first second (Err why)

@@ -12,17 +12,15 @@ use lib.Dec.{T, eqb}
 use lib.ListN.{length, get_or, replicate}
 use Rattle.ground.proofs.Truths.{differ, is_true}
 use Rattle.ground.specs.Bytes.{name_byte}
-use Rattle.answers.specs.Answer.{Verdict}
 use Rattle.rule.specs.declared.way.Way.{Way}
 use Rattle.rule.specs.declared.situation.Situation.{Situation}
 use Rattle.rule.specs.Rule.{way_number}
 use Rattle.rule.specs.Pairs as rule
 use Rattle.rule.specs.Situation.{asks}
 use Rattle.models.specs.declared.model.Model.{Model}
-use Rattle.models.specs.Told.{Reading}
 use Rattle.models.specs.Reading.{reading}
-use Rattle.models.specs.Told.{accepting, Told, over, departs, repeated, accepted}
-use Rattle.models.proofs.Words.{told}
+use Rattle.models.specs.Told.{accepting}
+use Rattle.models.proofs.Words.{told, model_told}
 use Rattle.texts.proofs.NamePart.{each_at}
 use Rattle.texts.specs.NamePart.{NameFormed}
 use Rattle.shims.specs.declared.Models.{Models}
@@ -43,14 +41,10 @@ name_field n f =
     filled_field n f.some f.few λ k l. is_true (name_byte (get_or n k 0)) (each_at (λ (b : ℕ). T (name_byte b)) n 0 f.bytes k l)
 
 -- the name of a model that was read fills a field
-named_told : {t : List ℕ} {r : Reading} → Told t r → r.verdict ≡ (Ok tt) → NameField r.model.name.bytes
-named_told (over l) e = differ (cc)
-named_told (departs l n k) e = differ (cc)
-named_told (repeated d k l f t s) e = differ (cc)
-named_told (accepted d l f t s) e = name_field d.name f.name
-
 pub name_read : (text : List ℕ) {m : Model} → reading text ≡ accepting m → NameField m.name.bytes
-name_read text {m} e = named_told (subst (Told text) e (told text)) refl
+name_read text e =
+    let d = model_told (told text) e in
+    subst (λ (x : Model). NameField x.name.bytes) d.2 (name_field d.0.name d.1.name)
 
 way_bit : (way : Way) → way_number way ≤ 1
 way_bit Way.Sparing = omega arith

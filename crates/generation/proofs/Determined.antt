@@ -1,8 +1,8 @@
 -- One thing alone is given of a number and two texts, since one machine alone is made of two models. Assumes nothing.
-use Rattle.std.proofs.Common.{Result}
 use Prim.Native.Nat.{ℕ}
 use mathlib.Core.Path.{◌≡◌, sym, ap₂, ◌∙◌}
 use mathlib.Core.List.{List}
+use Rattle.machine.specs.Outcome.{Outcome}
 use Rattle.answers.specs.Given.{Given}
 use Rattle.shims.specs.declared.Models.{Models}
 use Rattle.shims.specs.Opening.{opened}
@@ -14,7 +14,7 @@ machine_one : (m : Models) (g h : Given) → MachineGiven m g → MachineGiven m
 machine_one m g h a b =
     let e = make_one m blank a.made b.made in
     a.gives_it
-    ∙ ap₂ (λ (o : Result Machine Refusal) (rows : List ℕ). given_by o m rows) e.0 e.1
+    ∙ ap₂ (λ (o : Outcome) (rows : List ℕ). given_by o m rows) e.0 e.1
     ∙ sym b.gives_it
 
 pub one_given : (number : ℕ) (upstream target : List ℕ) (g h : Given)

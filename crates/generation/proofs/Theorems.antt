@@ -1,11 +1,12 @@
 -- The theorems about an image that was generated, for any two texts and any way, as a reader wants to find them. Assumes nothing.
-use Rattle.std.proofs.Common.{Ok, Err, Result}
+use Rattle.std.proofs.Common.{Ok, Err}
 use Prim.Native.Nat.{ℕ, ◌*◌, ◌≤◌}
 use mathlib.Core.Path.{◌≡◌, sym, ap, subst, ◌∙◌}
 use mathlib.Core.Logic.{◌↔◌}
 use mathlib.Core.List.{List}
 use native.Mathlib.Omega.{arith}
 use lib.ListN.{length, take, length-replicate}
+use Rattle.machine.specs.Outcome.{Outcome}
 use Rattle.ground.proofs.Truths.{differ}
 use Rattle.answers.specs.declared.Refusal.{Refusal}
 use Rattle.answers.specs.Given.{Given, gives, refuses}
@@ -42,16 +43,16 @@ pub imaged : (number : ℕ) (upstream target image : List ℕ) (fences state : �
     → Imaged number upstream target image
 imaged number upstream target image fences state h =
     let o = given_opened call MachineGiven image fences state h in
-    by_outcome (opens (way_of number) upstream target o.0) o.1.outcome o.1.rows o.1.made o.1.gives_it
+    by_outcome o.0 (opens (way_of number) upstream target o.1) o.2.outcome o.2.rows o.2.made o.2.gives_it
   where
     call : Opening
     call = opened number upstream target
 
-    by_outcome : Opens (way_of number) upstream target call.models → (o : Result Machine Refusal) (rows : List ℕ) → MachineMade call.models blank o rows
-        → gives image fences state ≡ given_by o call.models rows → Imaged number upstream target image
-    by_outcome p (Ok x) rows g e =
-        record { models = call.models; opens = p; machine = x; rows = rows; made = g; image_is = cc }
-    by_outcome p (Err why) rows g e = differ (cc)
+    by_outcome : (m : Models) → Opens (way_of number) upstream target m → (o : Outcome) (rows : List ℕ) → MachineMade m blank o rows
+        → gives image fences state ≡ given_by o m rows → Imaged number upstream target image
+    by_outcome m p (Ok x) rows g e =
+        record { models = m; opens = p; machine = x; rows = rows; made = g; image_is = cc }
+    by_outcome m p (Err why) rows g e = differ (cc)
 
 module _ {number : ℕ} {upstream target image : List ℕ} (call : Imaged number upstream target image) where
   abbrev way : Way
@@ -117,11 +118,11 @@ module _ (models : Models) (given : Given) (is : MachineGiven models given) wher
   abbrev the_target : Model
   the_target = target_of the_shim (named targets)
 
-  abbrev made_of : Result Machine Refusal → Given
+  abbrev made_of : Outcome → Given
   made_of o = given_by o models is.rows
 
   -- a refusal that is given is the machine's
-  refused_as : (o : Result Machine Refusal) {why : Refusal} → made_of o ≡ refuses why → o ≡ Err why
+  refused_as : (o : Outcome) {why : Refusal} → made_of o ≡ refuses why → o ≡ Err why
   refused_as (Ok x) e = differ (cc)
   refused_as (Err w) {why} e = let same : w ≡ why = cc in ap Err same
 
@@ -145,7 +146,7 @@ module _ (models : Models) (given : Given) (is : MachineGiven models given) wher
 
   -- The rows always have room, so 7 is never given for want of it, but only where the image exceeds the caller's buffer.
   pub never_7 : given ≡ refuses Refusal.BufferTooSmall → ⊥
-  never_7 e = look (subst (λ (o : Result Machine Refusal). MachineMade models blank o is.rows) (refused_as is.outcome (sym is.gives_it ∙ e)) is.made)
+  never_7 e = look (subst (λ (o : Outcome). MachineMade models blank o is.rows) (refused_as is.outcome (sym is.gives_it ∙ e)) is.made)
     where
       short : Unmade (shim_of the_shim (named ups) (named targets)) blank Refusal.BufferTooSmall → ⊥
       short (roomless f l d h) = omega (arith, h, l, length-replicate {A = ℕ} 5100 0)

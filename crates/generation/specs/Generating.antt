@@ -1,6 +1,7 @@
 -- Generating to an image: two model texts, a way and a buffer. Document 01: "Order: way ..; upstream text (1, 2, 3); target text; ..; 8; 9; 7 last";
 -- "A machine's image" has the way, the states, the fences and the two names in its block 0.
-use Rattle.std.specs.Prelude.{ℕ, ◌*◌, ◌≡◌, List, replicate, Result, Ok, Err}
+use Rattle.std.specs.Prelude.{ℕ, ◌*◌, ◌≡◌, List, replicate, Ok, Err}
+use Rattle.machine.specs.Outcome.{Outcome}
 use Rattle.answers.specs.Given.{Given, gives, refuses}
 use Rattle.operations.specs.Alphabet.{stride}
 use Rattle.shims.specs.declared.Models.{Models}
@@ -23,7 +24,7 @@ header_for x m =
     }
 
 -- what is given once the machine is made, or cannot be
-abbrev pub given_by : Result Machine Refusal → Models → List ℕ → Given
+abbrev pub given_by : Outcome → Models → List ℕ → Given
 given_by (Ok x) m rows = gives (image_of (header_for x m) rows) 0 0
 given_by (Err why) m rows = refuses why
 
@@ -33,7 +34,7 @@ blank = replicate (255 * stride) 0
 
 -- the machine between two models is made, and its image is what is given
 pub record MachineGiven (models : Models) (given : Given) : Type 0 where
-  pub outcome : Result Machine Refusal
+  pub outcome : Outcome
   pub rows : List ℕ
   pub made : MachineMade models blank outcome rows
   pub gives_it : given ≡ given_by outcome models rows

@@ -6,7 +6,7 @@ ghost use Rattle.answers.specs.Given.{Delivers, Answers};
 ghost use Rattle.generation.specs.Generating.{header_for, given_by, MachineGiven, ImageGiven};
 ghost use Rattle.generation.specs.inner.Small.{Small, SmallMade};
 
-use answers::{Answer, Verdict};
+use answers::Answer;
 use image::machine::Header;
 use machine::machine::{Machine, Outcome};
 use operations::alphabet::WORDS;
@@ -38,10 +38,7 @@ fn write_made(made: Outcome, models: Models, rows: &[u16], out: &mut [u8]) -> An
     requires { SmallMade made }
     ensures { Delivers (given_by made models rows.now) out.old result out.new }
 {
-    match made {
-        Ok(machine) => image::writer::write(header_for(machine, models), rows, out),
-        Err(why) => Err(why),
-    }
+    image::writer::write(header_for(made?, models), rows, out)
 }
 
 // Makes the machine between two models, and writes its image. It owns the machine's rows, which hold 255 states.
@@ -57,11 +54,5 @@ fn generate_models(models: Models, out: &mut [u8]) -> Answer
 pub fn generate<'a>(way: u64, upstream: &'a [u8], target: &'a [u8], out: &mut [u8]) -> Answer
     ensures { Answers (ImageGiven way upstream.now target.now) out.old result out.new }
 {
-    let read = shims::read_both(way, upstream, target);
-    let verdict = read.verdict;
-    let models = read.models;
-    match verdict {
-        Err(why) => Err(why),
-        Ok(()) => generate_models(models, out),
-    }
+    generate_models(shims::read_both(way, upstream, target)?, out)
 }

@@ -1,6 +1,7 @@
 -- What the C host gets. Document 01: "The translator host is written in C and calls the library with numbers and byte regions." The refusal's
 -- number is the first of the five numbers of an answer, and is returned too; 0 is success.
-use Rattle.std.specs.Prelude.{ℕ, ◌≡◌, List, Ok, Err, Result}
+use Rattle.std.specs.Prelude.{ℕ, ◌≡◌, List, Ok, Err}
+use Rattle.comparison.specs.Comparison.{Compared}
 use Rattle.answers.specs.Answer.{Answer, done}
 use Rattle.answers.specs.Answer.{number_of, numbers_of}
 use Rattle.comparison.specs.Comparison as Comparison
@@ -10,11 +11,11 @@ number_in (Ok (done written fences state)) = 0
 number_in (Err why) = number_of why
 
 -- a comparison as an answer, and as its relation: 0 equal, 1 first stronger, 2 second stronger, 3 neither; 0 where refused
-abbrev pub compared_as : Result Comparison Refusal → Answer
+abbrev pub compared_as : Compared → Answer
 compared_as (Ok is) = Ok (done 0 0 0)
 compared_as (Err why) = Err why
 
-abbrev pub relation_of : Result Comparison Refusal → ℕ
+abbrev pub relation_of : Compared → ℕ
 relation_of (Ok is) = Comparison.number_of is
 relation_of (Err why) = 0
 
@@ -26,7 +27,7 @@ pub record Tells (Promise : Answer → List ℕ → Type 0) (number : ℕ) (numb
   pub told : numbers ≡ numbers_of what
 
 -- what is told of a comparison: its relation too
-pub record TellsRelation (compared : Result Comparison Refusal) (number relation : ℕ) (numbers : List ℕ) : Type 0 where
+pub record TellsRelation (compared : Compared) (number relation : ℕ) (numbers : List ℕ) : Type 0 where
   pub returned : number ≡ number_in (compared_as compared)
   pub set : relation ≡ relation_of compared
   pub told : numbers ≡ numbers_of (compared_as compared)

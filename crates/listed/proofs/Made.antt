@@ -1,6 +1,6 @@
 -- What is listed once the machine is made: each outcome is what the rule's machine comes to, and a machine that is made is within the limits.
 -- Assumes nothing.
-use Rattle.std.proofs.Common.{Option, Some, Ok, Err, Result}
+use Rattle.std.proofs.Common.{Option, Some, Ok, Err}
 use Prim.Native.Nat.{ℕ, ◌+◌, ◌*◌, ◌%◌, ◌/◌, ◌^◌, ◌≤◌, ◌<◌}
 use mathlib.Core.Path.{◌≡◌, sym, ap, ap₂, subst, ◌∙◌}
 use mathlib.Core.Bool.{Bool, true, false, cond}
@@ -8,6 +8,7 @@ use mathlib.Core.List.{List}
 use native.Mathlib.Omega.{arith}
 use lib.Dec.{eqb}
 use lib.ListN.{length}
+use Rattle.machine.specs.Outcome.{Outcome}
 use Rattle.ground.specs.Bytes.{at}
 use Rattle.answers.specs.declared.Refusal.{Refusal}
 use Rattle.answers.specs.Answer.{Answer}
@@ -41,11 +42,11 @@ use Rattle.listed.proofs.Longest.{listing-length, refused-length}
 
 module _ (m : Models) (sixteen : Sixteen m) (output : List ℕ) (fences : ℕ) (ran : RunOutput output fences)
     (rows rows' : List ℕ) (size : length rows ≡ 5100) where
-  abbrev Makes : Result Machine Refusal → Type 0
+  abbrev Makes : Outcome → Type 0
   Makes r =
       Built (rule_of m) m.way (length (model_of m.upstream).fences) (length (model_of m.target).fences) rows r rows'
 
-  listable : (r : Result Machine Refusal) → Makes r → MadeListable r rows' output fences
+  listable : (r : Outcome) → Makes r → MadeListable r rows' output fences
   listable (Ok x) b =
       record {
         few_states = b.few_states;
@@ -68,15 +69,15 @@ module _ (m : Models) (sixteen : Sixteen m) (output : List ℕ) (fences : ℕ) (
   unlisted (machine.overfull f h) = overfull f h
   unlisted (machine.roomless f l d h) = absurd (omega (arith, h, l, size))
 
-  listed : (r : Result Machine Refusal) → Makes r → MachineListed m output (made_given r m rows' output fences)
+  listed : (r : Outcome) → Makes r → MachineListed m output (made_given r m rows' output fences)
   listed (Ok x) b =
       subst (MachineListed m output) (listed_as x b.its_ups) (made b.few_situations b.few_states b.states)
   listed (Err why) b = unlisted b.0
 
-  pub made_listable : (r : Result Machine Refusal) → MachineMade m rows r rows' → MadeListable r rows' output fences
+  pub made_listable : (r : Outcome) → MachineMade m rows r rows' → MadeListable r rows' output fences
   made_listable r g = listable r (made_read m sixteen.upstream sixteen.target g)
 
-  pub made_listed : {r : Result Machine Refusal} {out after : List ℕ} {a : Answer} → MachineMade m rows r rows'
+  pub made_listed : {r : Outcome} {out after : List ℕ} {a : Answer} → MachineMade m rows r rows'
       → Delivers (made_given r m rows' output fences) out a after → Answers (MachineListed m output) out a after
   made_listed {r} g d = record {
     given = made_given r m rows' output fences;

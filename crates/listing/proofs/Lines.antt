@@ -10,6 +10,7 @@ use borrow.Author.Tests.{eq-eqb, ne_eqb}
 use lib.Dec.{eqb, leb}
 use lib.ListN.{length, get_or, take, drop, length-drop}
 use lib.Seq.{take_all, take-add, drop-drop}
+use Rattle.rule.specs.declared.way.Way.{Way}
 use Rattle.ground.specs.Search.{index_of, index_after}
 use Rattle.ground.proofs.Sameness.{same_is}
 use Rattle.ground.specs.Bytes.{bytes, same_bytes}

@@ -1,6 +1,6 @@
 -- What becomes of a machine is determined, since more than n and at most n exclude each other, and a description of the states is one: so is the
 -- outcome, and every word of the rows. Assumes nothing.
-use Rattle.std.proofs.Common.{Result, Ok, Err}
+use Rattle.std.proofs.Common.{Ok, Err}
 use Prim.Native.Nat.{ℕ, ◌+◌, ◌*◌, ◌/◌, ◌%◌, ◌≤◌, ◌<◌}
 use mathlib.Core.Path.{◌≡◌, refl, sym, ◌∙◌, ap}
 use mathlib.Core.Logic.{◌⊎◌, inl, inr}
@@ -9,6 +9,7 @@ use native.Mathlib.Omega.{arith}
 use native.Mathlib.Decide.{dec_lt}
 use borrow.Author.Tests.{ne_eqb}
 use lib.Seq.{ext_get_or}
+use Rattle.machine.specs.Outcome.{Outcome}
 use Rattle.ground.specs.Bytes.{at}
 use Rattle.answers.specs.declared.Refusal.{Refusal}
 use Rattle.operations.specs.Alphabet.{letters_with, stride}
@@ -100,7 +101,7 @@ module _ (m : Mealy Situation ℕ) (way : Way) (ups targets : ℕ) (letters : m.
   unmade_one (roomless f l d h) (roomless e n c k) = refl
 
   -- so there is one outcome with its rows
-  pub built_one : (r s : Result Machine Refusal) {rows₁ rows₂ : List ℕ} → Built m way ups targets rows r rows₁ → Built m way ups targets rows s rows₂
+  pub built_one : (r s : Outcome) {rows₁ rows₂ : List ℕ} → Built m way ups targets rows r rows₁ → Built m way ups targets rows s rows₂
       → (r ≡ s) × (rows₁ ≡ rows₂)
   built_one (Ok x) (Ok y) b c = (ap Ok (machine_one b c), rows_one b c)
   built_one (Ok x) (Err why) b c = absurd (not_both b c.0)

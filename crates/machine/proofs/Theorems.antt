@@ -1,13 +1,14 @@
 -- The theorems about the machine of any two models and any way, as a reader wants to find them: stated on the rule's own runs, `run` and `onward`,
 -- for any rows that describe it, whether they were generated, listed or read from an image. Such rows run like the rule's own machine.
 -- A stream of letters is a stream of operations by the alphabet: 0 l, 1 L, 2 s, 3 S, 4 upwards the upstream fences. Assumes nothing.
-use Rattle.std.proofs.Common.{Result, Ok, Err}
+use Rattle.std.proofs.Common.{Ok, Err}
 use Prim.Native.Nat.{ℕ, ◌≤◌, ◌<◌}
 use mathlib.Core.Path.{◌≡◌, refl, sym, ◌∙◌, ap, subst}
 use mathlib.Core.Logic.{◌↔◌}
 use mathlib.Core.List.{List, []}
 use native.Mathlib.Omega.{arith}
 use lib.ListN.{length, get_or}
+use Rattle.machine.specs.Outcome.{Outcome}
 use Rattle.answers.specs.declared.Refusal.{Refusal}
 use Rattle.rule.specs.declared.situation.Situation.{Situation}
 use Rattle.rule.specs.declared.way.Way.{Way}
@@ -180,7 +181,7 @@ module _ (s : Shim) (ups fences : List ℕ) where
       λ c. first_without _ situations_are.more situations_are.no_more c.more c.no_more,
     )
 
-  module _ (rows : List ℕ) (r : Result Machine Refusal) (rows' : List ℕ) (generated : Generated s ups fences rows r rows') where
+  module _ (rows : List ℕ) (r : Outcome) (rows' : List ℕ) (generated : Generated s ups fences rows r rows') where
     -- The refusal 8 is given exactly when more than 4,096 situations can be reached.
     pub refused_8_exactly_when : (r ≡ Err Refusal.TooManySituations) ↔ ManySituations way up target
     refused_8_exactly_when = (λ e. both.0 (many r e generated), λ h. look r generated (both.1 h))
@@ -191,7 +192,7 @@ module _ (s : Shim) (ups fences : List ℕ) where
         so_many : Unmade ruled rows Refusal.TooManySituations → More ruled ◌≡◌ 4096
         so_many (crowded h) = h
 
-        many : (o : Result Machine Refusal) → o ≡ Err Refusal.TooManySituations → Generated s ups fences rows o rows' → More ruled ◌≡◌ 4096
+        many : (o : Outcome) → o ≡ Err Refusal.TooManySituations → Generated s ups fences rows o rows' → More ruled ◌≡◌ 4096
         many o e g = let c : Generated s ups fences rows (Err Refusal.TooManySituations) rows' = rw e at g in so_many c.0
 
         refusal : {why : Refusal} → Unmade ruled rows why → More ruled ◌≡◌ 4096 → why ≡ Refusal.TooManySituations
@@ -199,7 +200,7 @@ module _ (s : Shim) (ups fences : List ℕ) where
         refusal (overfull f k) h = absurd (not_more _ ◌≡◌ equal 4096 f h)
         refusal (roomless f l d k) h = absurd (not_more _ ◌≡◌ equal 4096 f h)
 
-        look : (o : Result Machine Refusal) → Generated s ups fences rows o rows' → More ruled ◌≡◌ 4096 → o ≡ Err Refusal.TooManySituations
+        look : (o : Outcome) → Generated s ups fences rows o rows' → More ruled ◌≡◌ 4096 → o ≡ Err Refusal.TooManySituations
         look (Ok x) g h = absurd (not_more _ ◌≡◌ equal 4096 g.few_situations h)
         look (Err why) g h = ap Err (refusal g.0 h)
 
@@ -217,7 +218,7 @@ module _ (s : Shim) (ups fences : List ℕ) where
         so_many : Unmade ruled rows Refusal.TooManyStates → (ManySituations way up target → ⊥) × ManyStates way up target
         so_many (overfull f h) = (λ k. not_more _ ◌≡◌ equal 4096 f (both.1 k), many.0 h)
 
-        states : (o : Result Machine Refusal) → o ≡ Err Refusal.TooManyStates → Generated s ups fences rows o rows'
+        states : (o : Outcome) → o ≡ Err Refusal.TooManyStates → Generated s ups fences rows o rows'
             → (ManySituations way up target → ⊥) × ManyStates way up target
         states o e g = let c : Generated s ups fences rows (Err Refusal.TooManyStates) rows' = rw e at g in so_many c.0
 
@@ -227,7 +228,7 @@ module _ (s : Shim) (ups fences : List ℕ) where
         refusal (overfull f k) n h = refl
         refusal (roomless f l d k) n h = absurd (too_few _ d l h)
 
-        look : (o : Result Machine Refusal) → Generated s ups fences rows o rows' → (ManySituations way up target → ⊥) → More ruled (Same ruled) 255
+        look : (o : Outcome) → Generated s ups fences rows o rows' → (ManySituations way up target → ⊥) → More ruled (Same ruled) 255
             → o ≡ Err Refusal.TooManyStates
         look (Ok x) g n h = absurd (too_few _ g.states g.few_states h)
         look (Err why) g n h = ap Err (refusal g.0 n h)

@@ -1,6 +1,7 @@
 -- What generating gives. 01, "The machine", and of its table of refusals 8, "the reachable situations exceed 4,096", and 9, "the states exceed 255",
 -- in this order, with 7, "what must be written exceeds the buffer", last.
-use Rattle.std.specs.Prelude.{ℕ, ◌+◌, ◌*◌, ◌/◌, ◌%◌, ◌≤◌, ◌<◌, ◌≡◌, ◌⊎◌, List, length, take, Result, Ok, Err}
+use Rattle.std.specs.Prelude.{ℕ, ◌+◌, ◌*◌, ◌/◌, ◌%◌, ◌≤◌, ◌<◌, ◌≡◌, ◌⊎◌, List, length, take, Ok, Err}
+use Rattle.machine.specs.Outcome.{Outcome}
 use Rattle.ground.specs.Bytes.{at}
 use Rattle.answers.specs.declared.Refusal.{Refusal}
 use Rattle.operations.specs.Alphabet.{letters_with, stride}
@@ -42,7 +43,7 @@ pub data Unmade (m : Mealy Situation ℕ) (rows : List ℕ) : Refusal → Type 0
       → Unmade m rows Refusal.BufferTooSmall
 
 -- what becomes of the rows, by the outcome; a refusal writes nothing
-abbrev pub Built : Mealy Situation ℕ → Way → ℕ → ℕ → List ℕ → Result Machine Refusal → List ℕ → Type 0
+abbrev pub Built : Mealy Situation ℕ → Way → ℕ → ℕ → List ℕ → Outcome → List ℕ → Type 0
 Built m way ups targets rows (Ok x) rows' = Making m way ups targets rows x rows'
 Built m way ups targets rows (Err why) rows' = Unmade m rows why × (rows' ≡ rows)
 
@@ -51,6 +52,6 @@ abbrev pub named : List ℕ → List ℕ
 named fences = take 16 fences
 
 -- what generating makes of a shim with these fences' packed tables on its two sides
-abbrev pub Generated : Shim → List ℕ → List ℕ → List ℕ → Result Machine Refusal → List ℕ → Type 0
+abbrev pub Generated : Shim → List ℕ → List ℕ → List ℕ → Outcome → List ℕ → Type 0
 Generated s ups fences rows r rows' =
     Built (shim_of s (named ups) (named fences)) s.way (length (named ups)) (length (named fences)) rows r rows'

@@ -1,3 +1,4 @@
+pub mod Outcome
 pub mod Shim
 pub mod Rows
 pub mod Generated

@@ -14,9 +14,5 @@ pub struct Machine {
     pub targets: usize,
 }
 
-#[derive(Clone, Copy)]
-pub enum Outcome {
-    Made(Machine),
-    // More than 4,096 situations, else more than 255 states, else rows that do not fit.
-    Refused(Refusal),
-}
+// Refused where there are more than 4,096 situations, else more than 255 states, else rows that do not fit.
+pub type Outcome = Result<Machine, Refusal>;

@@ -1,11 +1,11 @@
 -- A model that was read has at most sixteen fences, so that all of them count: its machine is that of the model as the rule sees it. Assumes
 -- nothing.
-use Rattle.std.proofs.Common.{Result}
 use Prim.Native.Nat.{ℕ, ◌≤◌}
 use mathlib.Core.Path.{◌≡◌, subst₂}
 use mathlib.Core.List.{List}
 use lib.ListN.{length}
 use lib.Seq.{take_all}
+use Rattle.machine.specs.Outcome.{Outcome}
 use Rattle.models.specs.declared.model.Model.{Model}
 use Rattle.shims.specs.declared.Models.{Models}
 use Rattle.shims.specs.Models.{model_of, shim_between}
@@ -18,7 +18,7 @@ use Rattle.making.specs.Made.{MachineMade}
 pub all_named : (m : Model) → m.fences ≤ 16 → named (model_of m).fences ≡ (model_of m).fences
 all_named m few = take_all 16 (model_of m).fences (few_fences m few)
 
-module _ (m : Models) (up : m.upstream.fences ≤ 16) (on : m.target.fences ≤ 16) {rows rows' : List ℕ} {r : Result Machine Refusal} where
+module _ (m : Models) (up : m.upstream.fences ≤ 16) (on : m.target.fences ≤ 16) {rows rows' : List ℕ} {r : Outcome} where
   pub made_read : MachineMade m rows r rows'
       → Built (shim m.way (model_of m.upstream) (model_of m.target)) m.way (length (model_of m.upstream).fences)
       (length (model_of m.target).fences) rows r rows'

@@ -7,9 +7,11 @@ use native.Mathlib.Omega.{arith}
 use native.Mathlib.Nat.{zero-add}
 use native.Mathlib.Decide.{dec_le}
 use lib.ListN.{length}
+use Rattle.ground.proofs.Truths.{differ}
 use Rattle.answers.specs.declared.Refusal.{Refusal}
 use Rattle.texts.specs.Language.{Longest, Judged}
 use Rattle.texts.proofs.Language.{longest_one, judged_iff}
+use Rattle.models.specs.declared.model.Model.{Model}
 use Rattle.models.specs.Told.{Reading}
 use Rattle.models.specs.Model.{Description, Formed}
 use Rattle.models.specs.Text.{text_of}
@@ -90,3 +92,10 @@ told_is {t} (accepted d l h is alone) = by (ends d h)
 -- an answer that equals the reader's is told by the words
 pub meets : (t : List ℕ) {r : Reading} → r ≡ reading t → (r ≡ reading t) × Told t r
 meets t e = (e, subst (Told t) (sym e) (told t))
+
+-- a model that was read is that of a description of the form
+pub model_told : {t : List ℕ} {r : Reading} {m : Model} → Told t r → r ≡ accepting m → (d : Description) × Formed d × (held d ≡ m)
+model_told (over l) e = differ (cc)
+model_told (departs l n k) e = differ (cc)
+model_told (repeated d k l f t s) e = differ (cc)
+model_told (accepted d l f t s) e = (d, f, cc)

@@ -2,20 +2,20 @@
 -- are for the calls' own proofs and for the proofs that they have one answer. Assumes nothing.
 use Rattle.std.proofs.Common.{Ok, Err}
 use Prim.Native.Nat.{ℕ}
-use mathlib.Core.Path.{◌≡◌, refl, sym, subst, ◌∙◌}
+use mathlib.Core.Path.{◌≡◌, refl, sym, ap, subst, ◌∙◌}
 use mathlib.Core.List.{List}
 use Rattle.ground.proofs.Truths.{differ}
 use Rattle.answers.specs.declared.Refusal.{Refusal}
 use Rattle.answers.specs.Answer.{Answer}
 use Rattle.answers.specs.Given.{Given, gives, refuses, Delivers, Answers}
-use Rattle.answers.proofs.Given.{delivers_refusal, answers_refusal, answers_by}
+use Rattle.answers.proofs.Given.{refusal_delivered, answers_by}
 use Rattle.shims.specs.declared.Models.{Models}
 use Rattle.shims.specs.Opening.{Opening, opening, refusing, on_opened, GivenOnOpened}
 
 -- where what is given is a function of the models
 module _ {o : Opening} (more : Models → Given) where
-  pub opening_refused : {why : Refusal} {out : List ℕ} → o ≡ refusing why → Delivers (on_opened o more) out (Err why) out
-  opening_refused {why} {out} e = subst (λ (x : Opening). Delivers (on_opened x more) out (Err why) out) (sym e) (delivers_refusal out)
+  pub opening_refused : {why : Refusal} {out : List ℕ} {a : Answer} → o ≡ refusing why → a ≡ Err why → Delivers (on_opened o more) out a out
+  opening_refused {out = out} e told = refusal_delivered out (ap (λ (x : Opening). on_opened x more) e) told
 
   pub opening_accepted : {models : Models} {out after : List ℕ} {r : Answer} → o ≡ opening models → Delivers (more models) out r after
       → Delivers (on_opened o more) out r after
@@ -23,9 +23,12 @@ module _ {o : Opening} (more : Models → Given) where
 
 -- where it is told by a property
 module _ {o : Opening} (More : Models → Given → Type 0) where
-  pub given_refused : {why : Refusal} {out : List ℕ} → o ≡ refusing why → Answers (GivenOnOpened o More) out (Err why) out
-  given_refused {why} {out} e =
-      answers_refusal (GivenOnOpened o More) out (subst (λ (x : Opening). GivenOnOpened x More (refuses why)) (sym e) refl)
+  pub given_refused : {why : Refusal} {out : List ℕ} {a : Answer} → o ≡ refusing why → a ≡ Err why → Answers (GivenOnOpened o More) out a out
+  given_refused {why} {out} e told = record {
+    given = refuses why;
+    right = subst (λ (x : Opening). GivenOnOpened x More (refuses why)) (sym e) refl;
+    delivered = refusal_delivered out refl told;
+  }
 
   pub given_accepted : {models : Models} {out after : List ℕ} {r : Answer} → o ≡ opening models → Answers (More models) out r after
       → Answers (GivenOnOpened o More) out r after

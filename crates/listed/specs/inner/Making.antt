@@ -1,5 +1,6 @@
 -- How the call goes on once the machine is made.
-use Rattle.std.specs.Prelude.{ℕ, List, Result, Ok, Err}
+use Rattle.std.specs.Prelude.{ℕ, List, Ok, Err}
+use Rattle.machine.specs.Outcome.{Outcome}
 use Rattle.answers.specs.Given.{Given, gives, refuses}
 use Rattle.operations.specs.Alphabet.{letters_with}
 use Rattle.shims.specs.declared.Models.{Models}
@@ -14,10 +15,10 @@ abbrev pub made_listing : Models → Machine → List ℕ → List ℕ → ℕ �
 made_listing m x rows output fences = listing_of m x.states (letters_with x.ups) (answer_at rows) output fences
 
 -- what is given for an outcome
-abbrev pub made_given : Result Machine Refusal → Models → List ℕ → List ℕ → ℕ → Given
+abbrev pub made_given : Outcome → Models → List ℕ → List ℕ → ℕ → Given
 made_given (Ok x) m rows output fences = gives (listing (made_listing m x rows output fences)) fences 0
 made_given (Err why) m rows output fences = refuses why
 
-abbrev pub MadeListable : Result Machine Refusal → List ℕ → List ℕ → ℕ → Type 0
+abbrev pub MadeListable : Outcome → List ℕ → List ℕ → ℕ → Type 0
 MadeListable (Ok x) rows output fences = Listable x rows output fences
 MadeListable (Err why) rows output fences = Unit {0}

@@ -1,5 +1,6 @@
 -- What each stage of generating is entered with.
-use Rattle.std.specs.Prelude.{ℕ, ◌≤◌, ◌<◌, ◌≡◌, List, length, Result}
+use Rattle.std.specs.Prelude.{ℕ, ◌≤◌, ◌<◌, ◌≡◌, List, length}
+use Rattle.machine.specs.Outcome.{Outcome}
 use Rattle.ground.specs.Bytes.{at}
 use Rattle.operations.specs.Alphabet.{letters_with}
 use Rattle.rule.specs.declared.way.Shim.{Shim}
@@ -16,7 +17,7 @@ pub record Few (ups fences : List ℕ) : Type 0 where
   pub few_fences : length fences ≤ 16
 
 -- what a stage promises: as `Generated`, of fences that an operation can name
-abbrev pub Makes : Shim → List ℕ → List ℕ → List ℕ → Result Machine Refusal → List ℕ → Type 0
+abbrev pub Makes : Shim → List ℕ → List ℕ → List ℕ → Outcome → List ℕ → Type 0
 Makes s ups fences rows r rows' = Built (shim_of s ups fences) s.way (length ups) (length fences) rows r rows'
 
 -- a table of answers in which nothing has been written
