@@ -10,7 +10,7 @@ ghost use Rattle.image.specs.Image.{Canonical};
 ghost use Rattle.drawing.specs.Drawing.{drawing_of};
 ghost use Rattle.drawing.specs.Calls.{drawn};
 
-use answers::{Answer, Verdict};
+use answers::Answer;
 use image::machine::Header;
 use image::reader;
 use operations::alphabet::{STRIDE, WORDS};
@@ -33,14 +33,7 @@ pub fn draw(image: &[u8], out: &mut [u8]) -> Answer
     ensures { Delivers (drawn image.now) out.old result out.new }
 {
     let mut rows = [0u16; WORDS];
-    let reading = reader::read(image, &mut rows);
-    let verdict = reading.verdict;
-    let header = reading.header;
-    match verdict {
-        Err(why) => Err(why),
-        Ok(()) => {
-            let n = ground::wide(header.states) * STRIDE;
-            write_drawing(header, &rows[..n], out)
-        }
-    }
+    let header = reader::read(image, &mut rows)?;
+    let n = ground::wide(header.states) * STRIDE;
+    write_drawing(header, &rows[..n], out)
 }

@@ -16,7 +16,7 @@ use Rattle.operations.specs.declared.Operation.{Operation}
 use Rattle.operations.specs.Operation.{byte_is, fence_byte}
 use Rattle.operations.specs.Alphabet.{fence_mark}
 use Rattle.operations.proofs.Bytes.{fence_read, written_read}
-use Rattle.texts.specs.Language.{Begins, Longest, Any, Some, Unique}
+use Rattle.texts.specs.Language.{Begins, Longest, Any, Some as SomeText, Unique}
 use Rattle.texts.specs.Telling.{took, stopped, Finds, finds, departs}
 use Rattle.drawing_edges.specs.Edges.{fence_in, fence_number, MarkPart}
 
@@ -83,7 +83,7 @@ unique_mark marks few s m n a b lm ln (va, ea) (vb, eb) =
     let marks-same : fence_mark a ≡ fence_mark b = ap (λ (x : List ℕ). get_or x 0 0) (sym ea ∙ ap (λ (i : ℕ). take i s) same ∙ eb) in
     (same, sym (told_mark a few va) ∙ ap told marks-same ∙ told_mark b few vb)
 
-pub some_mark : (marks : ℕ) → Some (Any (MarkPart marks))
+pub some_mark : (marks : ℕ) → SomeText (Any (MarkPart marks))
 some_mark marks = (45 ∷ [], (255, (inr refl, refl)))
 
 -- what begins a text of one byte has that byte in front

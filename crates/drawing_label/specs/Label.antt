@@ -1,7 +1,6 @@
 -- The first two lines of a drawing, up to its label, as a part of its text.
 use Rattle.std.specs.Prelude.{ℕ, ◌-◌, ◌≤◌, ◌≡◌, List, ◌++◌, length, take, drop, replicate, Ok, Err, Result}
 use Rattle.ground.specs.Bytes.{bytes}
-use Rattle.texts.specs.Step.{Step}
 use Rattle.texts.specs.Language.{Telling}
 use Rattle.texts.specs.NamePart.{NameFormed, name_run}
 use Rattle.texts.specs.Telling.{Then, Through, Either, Word, Named, Numbered, Taken, took, stopped}
@@ -81,24 +80,13 @@ label_of r = record {
   targets = r.targets;
 }
 
-abbrev pub taken_by : Label → Step → Taken Label
-taken_by l (Ok p) = took p l
-taken_by l (Err p) = stopped p
-
-abbrev pub label_taken : LabelRead → Taken Label
-label_taken r = taken_by (label_of r) r.step
+abbrev pub label_taken : Result LabelRead ℕ → Taken Label
+label_taken (Ok l) = took l.next (label_of l)
+label_taken (Err p) = stopped p
 
 -- a field holds a name and zeros behind it
 abbrev pub Fielded : List ℕ → Type 0
 Fielded x = field (unfilled x) ≡ x
-
--- where the text departs nothing is held but the place
-abbrev pub no_label : ℕ → LabelRead
-no_label p = record { step = Err p; upstream = replicate 16 0; target = replicate 16 0; way = 0; ups = 0; targets = 0 }
-
-abbrev pub Bare : LabelRead → Step → Type 0
-Bare r (Ok p) = Unit
-Bare r (Err p) = r ≡ no_label p
 
 -- what is held of a label fits a machine's header
 pub record Fits (r : LabelRead) : Type 0 where
@@ -107,7 +95,6 @@ pub record Fits (r : LabelRead) : Type 0 where
   pub targets : r.targets ≤ 16
   pub upstream : Fielded r.upstream
   pub target : Fielded r.target
-  pub bare : Bare r r.step
 
 -- the labels that a drawing has, and the two lines that tell one
 pub record LabelFormed (l : Label) : Type 0 where

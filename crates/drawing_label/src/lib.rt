@@ -1,8 +1,9 @@
 // The label of a drawing, read back: both names, the way and the two numbers of fences. Its parts are followed in order, each function with what
-// stood before its own; the names are kept by their places until all of the label has been read, since an enum may hold no array.
+// stood before its own; the names are kept by their places until all of the
+// label has been read.
 #![tactic(auto)]
 
-ghost use Rattle.std.specs.Prelude.{◌≡◌};
+ghost use Rattle.std.specs.Prelude.{◌≡◌, IfOk};
 ghost use Rattle.texts.specs.Telling.{Finds, part_taken};
 ghost use Rattle.drawing_label.specs.Label.{WayPart, FromTargets, FromUps, FromWay, FromTarget, FromUpstream, LabelPart};
 ghost use Rattle.drawing_label.specs.Label.{name_from, field, places_taken, label_taken, Fits};
@@ -20,21 +21,15 @@ struct Places {
     next: usize,
 }
 
-#[derive(Drop)]
-enum PlacesRead {
-    Read(Places),
-    Stuck(usize),
-}
-
-// A label with its names filled up with zeros, and the place behind it; where the text departs from a label the rest holds nothing.
+// A label with its names filled up with zeros, and the place behind it.
 #[derive(Clone, Copy)]
 pub struct LabelRead {
-    pub step: Step,
     pub upstream: [u8; 16],
     pub target: [u8; 16],
     pub way: usize,
     pub ups: usize,
     pub targets: usize,
+    pub next: usize,
 }
 
 // A way's word and the blank after it.
@@ -61,7 +56,7 @@ fn from_targets(
     way: usize,
     ups: usize,
     at: usize,
-) -> PlacesRead
+) -> Result<Places, usize>
     ensures { Finds (FromTargets (name_from text.now upstream) (name_from text.now target) way ups)
         text.now at (places_taken text.now result) }
 {
@@ -82,7 +77,7 @@ fn from_targets(
 }
 
 // From the number of upstream fences on.
-fn from_ups(text: &[u8], upstream: usize, target: usize, way: usize, at: usize) -> PlacesRead
+fn from_ups(text: &[u8], upstream: usize, target: usize, way: usize, at: usize) -> Result<Places, usize>
     ensures { Finds (FromUps (name_from text.now upstream) (name_from text.now target) way)
         text.now at (places_taken text.now result) }
 {
@@ -93,7 +88,7 @@ fn from_ups(text: &[u8], upstream: usize, target: usize, way: usize, at: usize) 
 }
 
 // From the way on.
-fn from_way(text: &[u8], upstream: usize, target: usize, at: usize) -> PlacesRead
+fn from_way(text: &[u8], upstream: usize, target: usize, at: usize) -> Result<Places, usize>
     ensures { Finds (FromWay (name_from text.now upstream) (name_from text.now target))
         text.now at (places_taken text.now result) }
 {
@@ -104,7 +99,7 @@ fn from_way(text: &[u8], upstream: usize, target: usize, at: usize) -> PlacesRea
 }
 
 // From the target's name on.
-fn from_target(text: &[u8], upstream: usize, at: usize) -> PlacesRead
+fn from_target(text: &[u8], upstream: usize, at: usize) -> Result<Places, usize>
     ensures { Finds (FromTarget (name_from text.now upstream)) text.now at (places_taken text.now result) }
 {
     match texts::name(text, at, b' ') {
@@ -114,7 +109,7 @@ fn from_target(text: &[u8], upstream: usize, at: usize) -> PlacesRead
 }
 
 // From the upstream's name on.
-fn from_upstream(text: &[u8], at: usize) -> PlacesRead
+fn from_upstream(text: &[u8], at: usize) -> Result<Places, usize>
     ensures { Finds FromUpstream text.now at (places_taken text.now result) }
 {
     match texts::name(text, at, b' ') {
@@ -123,7 +118,7 @@ fn from_upstream(text: &[u8], at: usize) -> PlacesRead
     }
 }
 
-fn label_places(text: &[u8]) -> PlacesRead
+fn label_places(text: &[u8]) -> Result<Places, usize>
     ensures { Finds LabelPart text.now 0 (places_taken text.now result) }
 {
     match texts::follow(text, 0, b"digraph shim {\nlabel=\"") {
@@ -154,29 +149,16 @@ fn name_field(text: &[u8], at: usize) -> [u8; 16]
 }
 
 // The label at the front of a text.
-pub fn label(text: &[u8]) -> LabelRead
-    ensures { Finds LabelPart text.now 0 (label_taken result) × Fits result }
+pub fn label(text: &[u8]) -> Result<LabelRead, usize>
+    ensures { Finds LabelPart text.now 0 (label_taken result) × IfOk result Fits }
 {
-    match label_places(text) {
-        Err(place) => LabelRead {
-            step: Err(place),
-            upstream: [0; 16],
-            target: [0; 16],
-            way: 0,
-            ups: 0,
-            targets: 0,
-        },
-        Ok(l) => {
-            let upstream = name_field(text, l.upstream);
-            let target = name_field(text, l.target);
-            LabelRead {
-                step: Ok(l.next),
-                upstream,
-                target,
-                way: l.way,
-                ups: l.ups,
-                targets: l.targets,
-            }
-        }
-    }
+    let l = label_places(text)?;
+    Ok(LabelRead {
+        upstream: name_field(text, l.upstream),
+        target: name_field(text, l.target),
+        way: l.way,
+        ups: l.ups,
+        targets: l.targets,
+        next: l.next,
+    })
 }

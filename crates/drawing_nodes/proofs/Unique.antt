@@ -22,7 +22,7 @@ follow_decimal_one text at number after p q = p ∙ sym q
 same : (r r' : Part) → nodes_taken r ≡ nodes_taken r' → r ≡ r'
 same (Ok (p, n)) (Ok (q, m)) e =
     let behind : p + 1 ≡ q + 1 = cc in
-    ap₂ Ok ((omega (arith, behind)), (cc))
+    ap₂ (λ (a b : ℕ). Ok (a, b)) (omega (arith, behind)) (cc)
 same (Ok (p, n)) (Err q) e = cc
 same (Err p) (Ok (q, m)) e = cc
 same (Err p) (Err q) e = cc

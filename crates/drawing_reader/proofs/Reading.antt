@@ -1,6 +1,6 @@
 -- How the reader goes on from one part of a drawing to the next, and what it has read in the end: each by the law for one part and then another,
 -- and by the texts of the whole part, which are the drawings. Assumes nothing.
-use Rattle.std.proofs.Common.{Ok, Err}
+use Rattle.std.proofs.Common.{Result, Ok, Err}
 use Prim.Native.Nat.{ℕ, ◌+◌, ◌*◌, ◌%◌, ◌≤◌, ◌<◌}
 use mathlib.Core.Path.{◌≡◌, refl, sym, ap, ap₂, subst, ◌∙◌}
 use mathlib.Core.List.{List, [], ◌++◌}
@@ -13,7 +13,7 @@ use Rattle.operations.specs.Alphabet.{access_letters, stride}
 use Rattle.printing.specs.Turns.{in_turn}
 use Rattle.texts.specs.Step.{Step}
 use Rattle.texts.specs.Step.{Part}
-use Rattle.texts.specs.Language.{Longest, Any}
+use Rattle.texts.specs.Language.{Telling, Longest, Any}
 use Rattle.texts.specs.Pattern.{follow_at}
 use Rattle.texts.specs.Telling.{After, Through, Word, Taken, took, stopped, Finds, finds, departs, word_taken}
 use Rattle.texts.proofs.Language.{longest_iff}
@@ -26,12 +26,13 @@ use Rattle.drawing.specs.Drawing.{node_line, drawing_of}
 use Rattle.drawing.proofs.SameWords.{drawing_of_words}
 use Rattle.drawing_edges.specs.declared.Shape.{Shape}
 use Rattle.drawing_label.specs.declared.LabelRead.{LabelRead}
+use Rattle.drawing_reader.specs.declared.DrawingRead.{DrawingRead}
 use Rattle.drawing_reader.specs.Undrawing.{Drawing}
-use Rattle.drawing_label.specs.Label.{Label, LabelPart, LabelFormed, label_of, label_for, label_taken, taken_by, Fielded}
+use Rattle.drawing_label.specs.Label.{Label, LabelPart, LabelFormed, label_of, label_for, label_taken}
 use Rattle.drawing_nodes.specs.Nodes.{NodesPart, nodes_taken}
 use Rattle.drawing_edges.specs.Edges.{Shaped}
 use Rattle.drawing_reader.specs.inner.Rows.{RowsPart, ReadsRows, rows_taken}
-use Rattle.drawing_reader.specs.inner.Whole.{Drawn, shape_for, DrawingEnd, FromEdges, FromNodes, WholePart, drawn_for, drawn_taken, ReadsDrawn}
+use Rattle.drawing_reader.specs.inner.Whole.{Drawn, shape_for, DrawingEnd, FromEdges, FromNodes, WholePart, drawn_for, drawn_taken, ReadsDrawn, Reads}
 use Rattle.drawing_label.proofs.Labels.{unique_label, told_formed}
 use Rattle.drawing_nodes.proofs.NodeLines.{unique_nodes, nodes_text}
 use Rattle.drawing_reader.proofs.EdgeRows.{unique_rows}
@@ -64,12 +65,12 @@ module _ (h : Header) (shaped : Shaped (shape_for (label_for h) h.states)) {shap
   taken : {x : Step} → r ≡ x → Finds (RowsPart sh) t start (rows_taken sh.letters rows' sh.states x)
   taken e = subst (λ (x : Step). Finds (RowsPart sh) t start (rows_taken sh.letters rows' sh.states x)) e read.found
 
-  pub edges_stop : {p : ℕ} → r ≡ Err p → Edges start h.states (Err p)
-  edges_stop e = record {
+  pub edges_stop : {p : ℕ} {x : Step} → r ≡ Err p → x ≡ Err p → Edges start h.states x
+  edges_stop e told = subst (Edges start h.states) (sym told) (record {
     size = read.size;
     found = then_stops (RowsPart sh) (DrawingEnd (label_for h) h.states) t start (some_end (label_for h) h.states shaped) (taken e);
     rest = read.rest;
-  }
+  })
 
   pub edges_end : {p : ℕ} → r ≡ Ok p → {x : Step} → x ≡ follow_at (bytes "}\n") t p → Edges start h.states x
   edges_end {p} e {x} is = record {
@@ -126,12 +127,8 @@ module _ (l : Label) (formed : LabelFormed l) (t : List ℕ) (start : ℕ) {r : 
   told : {x : Part} → r ≡ x → Finds NodesPart t start (nodes_taken x)
   told e = subst (λ (x : Part). Finds NodesPart t start (nodes_taken x)) e read
 
-  pub nodes_stop : {p : ℕ} → r ≡ Err p → (rows : List ℕ) (h : Header) → ReadsDrawn (FromNodes l) t start rows h (Err p) rows
-  nodes_stop e rows h = record {
-    size = refl;
-    found = stops_told NodesPart (λ n. After 48 (FromEdges l n)) t start (some_behind_nodes l formed) (told e);
-    rest = λ i out. refl;
-  }
+  pub nodes_stop : {p : ℕ} → r ≡ Err p → Finds (FromNodes l) t start (stopped p)
+  nodes_stop e = stops_told NodesPart (λ n. After 48 (FromEdges l n)) t start (some_behind_nodes l formed) (told e)
 
   module _ {q n : ℕ} (e : r ≡ Ok (q, n)) where
     there : NodesThere t (took (q + 1) n)
@@ -158,28 +155,35 @@ module _ (l : Label) (formed : LabelFormed l) (t : List ℕ) (start : ℕ) {r : 
           rest = edges.rest;
         }
 
+-- where the text departs, that is what was read
+pub stops_so : {L : Telling Drawn} {t : List ℕ} {start p : ℕ} {x : Result DrawingRead ℕ} (rows rows' : List ℕ) → x ≡ Err p → Finds L t start (stopped p)
+    → Reads L t start rows x rows'
+stops_so {L} {t} {start} rows rows' is found = subst (λ (x : Result DrawingRead ℕ). Reads L t start rows x rows') (sym is) found
+
 -- the label
-module _ (t : List ℕ) (l : LabelRead) (read : Finds LabelPart t 0 (label_taken l)) where
-  given : {x : Step} → l.step ≡ x → Finds LabelPart t 0 (taken_by (label_of l) x)
-  given e = subst (λ (x : Step). Finds LabelPart t 0 (taken_by (label_of l) x)) e read
+module _ (t : List ℕ) {r : Result LabelRead ℕ} (read : Finds LabelPart t 0 (label_taken r)) where
+  given : {x : Result LabelRead ℕ} → r ≡ x → Finds LabelPart t 0 (label_taken x)
+  given e = subst (λ (x : Result LabelRead ℕ). Finds LabelPart t 0 (label_taken x)) e read
 
-  pub label_stop : {p : ℕ} → l.step ≡ Err p → (rows : List ℕ) (h : Header) → ReadsDrawn WholePart t 0 rows h (Err p) rows
-  label_stop e rows h = record {
-    size = refl;
-    found = stops_told LabelPart FromNodes t 0 some_behind_label (given e);
-    rest = λ i out. refl;
-  }
+  pub label_stop : {p : ℕ} → r ≡ Err p → Finds WholePart t 0 (stopped p)
+  label_stop e = stops_told LabelPart FromNodes t 0 some_behind_label (given e)
 
-  pub label_formed : {p : ℕ} → l.step ≡ Ok p → LabelFormed (label_of l)
-  label_formed e = told_formed (given e)
+  module _ (l : LabelRead) (e : r ≡ Ok l) where
+    pub label_formed : LabelFormed (label_of l)
+    label_formed = told_formed (given e)
 
-  pub label_go : {p : ℕ} → l.step ≡ Ok p → (rows rows' : List ℕ) (h : Header) {x : Step}
-      → ReadsDrawn (FromNodes (label_of l)) t p rows h x rows' → ReadsDrawn WholePart t 0 rows h x rows'
-  label_go e rows rows' h nodes = record {
-    size = nodes.size;
-    found = then_goes LabelPart FromNodes t 0 unique_label (given e) nodes.found;
-    rest = nodes.rest;
-  }
+    pub label_go : (rows rows' : List ℕ) (d : Result DrawingRead ℕ) → Reads (FromNodes (label_of l)) t l.next rows d rows'
+        → Reads WholePart t 0 rows d rows'
+    label_go rows rows' (Ok d) (nodes, up, target) = (
+      record {
+        size = nodes.size;
+        found = then_goes LabelPart FromNodes t 0 unique_label (given e) nodes.found;
+        rest = nodes.rest;
+      },
+      up,
+      target,
+    )
+    label_go rows rows' (Err p) nodes = then_goes LabelPart FromNodes t 0 unique_label (given e) nodes
 
 -- zeros everywhere
 zero-at : (i : ℕ) → at (replicate (255 * stride) 0) i ≡ 0
@@ -189,29 +193,34 @@ zero-at i = by (dec_lt i (255 * stride))
     by (yes l) = get_or-replicate {A = ℕ} (255 * stride) i 0 0 l
     by (no l) = get_or-eq_default (replicate (255 * stride) 0) 0 {n = i} (omega (arith, length-replicate {A = ℕ} (255 * stride) 0))
 
--- what was read in the end, by a text's length; the rows were zeros before
-module _ (t : List ℕ) (h : Header) (rows : List ℕ) {r : Step} (read : ReadsDrawn WholePart t 0 (replicate (255 * stride) 0) h r rows) where
-  whole : {x : Step} → r ≡ x → Finds WholePart t 0 (drawn_taken h rows x)
-  whole e = subst (λ (x : Step). Finds WholePart t 0 (drawn_taken h rows x)) e read.found
+no_drawing : (t : List ℕ) {k : ℕ} → Longest (Any WholePart) t k × (Any WholePart t → ⊥) → (Drawing t → ⊥) × Longest Drawing t k
+no_drawing t {k} (longest, none) = ((λ d. none (drawing_any t d)), longest_iff (Any WholePart) Drawing any_drawing drawing_any t k longest)
 
-  no_drawing : {k : ℕ} → Longest (Any WholePart) t k × (Any WholePart t → ⊥) → (Drawing t → ⊥) × Longest Drawing t k
-  no_drawing {k} (longest, none) = ((λ d. none (drawing_any t d)), longest_iff (Any WholePart) Drawing any_drawing drawing_any t k longest)
+-- what was read in the end, by a text's length; the rows were zeros before
+module _ (t : List ℕ) (rows : List ℕ) {r : Result DrawingRead ℕ} (read : Reads WholePart t 0 (replicate (255 * stride) 0) r rows) where
+  read_as : {x : Result DrawingRead ℕ} → r ≡ x → Reads WholePart t 0 (replicate (255 * stride) 0) x rows
+  read_as e = subst (λ (x : Result DrawingRead ℕ). Reads WholePart t 0 (replicate (255 * stride) 0) x rows) e read
 
   pub read_stuck : {k : ℕ} → r ≡ Err k → (Drawing t → ⊥) × Longest Drawing t k
-  read_stuck e = no_drawing (whole_stopped WholePart t (whole e))
+  read_stuck e = no_drawing t (whole_stopped WholePart t (read_as e))
 
-  pub read_passed : {k : ℕ} → r ≡ Ok k → (k ≡ length t → ⊥) → (Drawing t → ⊥) × Longest Drawing t k
-  read_passed e more = no_drawing (whole_passed WholePart t unique_whole (whole e) more)
+  pub read_passed : (d : DrawingRead) → r ≡ Ok d → (d.next ≡ length t → ⊥) → (Drawing t → ⊥) × Longest Drawing t d.next
+  read_passed d e more = no_drawing t (whole_passed WholePart t unique_whole (read_as e).0.found more)
 
-  module _ {k n : ℕ} (e : r ≡ Ok k) (all : k ≡ length t) (up : Fielded h.upstream) (target : Fielded h.target)
-      (states : n ≡ h.states) where
+  module _ {n : ℕ} (d : DrawingRead) (e : r ≡ Ok d) (all : d.next ≡ length t) (states : n ≡ d.header.states) where
+    abbrev pub h : Header
+    h = d.header
+
+    drawn : ReadsDrawn WholePart t 0 (replicate (255 * stride) 0) d.header (Ok d.next) rows
+    drawn = (read_as e).0
+
     absent : (s f : ℕ) → s < h.states → h.ups ≤ f → f < 16 → word rows s (access_letters + f) ≡ 0
     absent s f l m few =
         let letter : (s * stride + (access_letters + f)) % stride ≡ access_letters + f = omega arith in
-        read.rest (s * stride + (access_letters + f)) (λ w. omega (arith, w.letter, letter)) ∙ zero-at (s * stride + (access_letters + f))
+        drawn.rest (s * stride + (access_letters + f)) (λ w. omega (arith, w.letter, letter)) ∙ zero-at (s * stride + (access_letters + f))
 
     machine : Canonical h rows × (t ≡ drawing_of h rows)
-    machine = drawing_told h rows up target absent t (whole_told WholePart t (whole e) all)
+    machine = drawing_told h rows (read_as e).1 (read_as e).2 absent t (whole_told WholePart t drawn.found all)
 
     -- the front of the rows, which is written
     front : (s a : ℕ) → s < h.states → a < stride → word rows s a ≡ word (take (n * stride) rows) s a

@@ -7,7 +7,7 @@ ghost use Rattle.operations.specs.Alphabet.{stride};
 ghost use Rattle.drawing_reader.specs.Undrawing.{Undrawn};
 ghost use Rattle.drawing_label.specs.Label.{LabelFormed, label_of, label_for, Fielded, Fits};
 ghost use Rattle.drawing_edges.specs.Edges.{Shaped};
-ghost use Rattle.drawing_reader.specs.inner.Whole.{shape_for, FromEdges, FromNodes, WholePart, ReadsDrawn};
+ghost use Rattle.drawing_reader.specs.inner.Whole.{shape_for, FromEdges, FromNodes, WholePart, ReadsDrawn, Reads};
 
 mod edges;
 
@@ -17,16 +17,16 @@ use drawing_label::LabelRead;
 use image::machine::Header;
 use image::writer;
 use operations::alphabet::{ACCESSES, STRIDE, WORDS};
-use texts::{Part, Step};
+use texts::Step;
 
 // The limit of a drawing's length.
 const LIMIT: usize = 262_144;
 
-// What was read of a drawing: the place behind it and its header. The rows of its states are lent beside it.
+// What was read of a drawing: its header and the place behind it. The rows of its states are lent beside it.
 #[derive(Drop)]
 struct DrawingRead {
-    step: Step,
     header: Header,
+    next: usize,
 }
 
 // The edges and the last line, from the first edge on.
@@ -40,10 +40,8 @@ fn read_edges(text: &[u8], at: usize, header: Header, rows: &mut [u16]) -> Step
         letters: ACCESSES + ground::wide(header.ups),
         targets: ground::wide(header.targets),
     };
-    match edges::edge_rows(text, at, rows, shape) {
-        Err(place) => Err(place),
-        Ok(end) => texts::follow(text, end, b"}\n"),
-    }
+    let end = edges::edge_rows(text, at, rows, shape)?;
+    texts::follow(text, end, b"}\n")
 }
 
 // The header of a machine that has so many states, by its label.
@@ -64,39 +62,23 @@ fn header_for(label: LabelRead, states: usize) -> Header
 }
 
 // From the nodes on.
-fn read_nodes(text: &[u8], at: usize, label: LabelRead, rows: &mut [u16]) -> DrawingRead
+fn read_nodes(text: &[u8], at: usize, label: LabelRead, rows: &mut [u16]) -> Result<DrawingRead, usize>
     requires { Fits label × LabelFormed (label_of label) × (255 * stride ≤ length rows.old) }
-    ensures { ReadsDrawn (FromNodes (label_of label)) text.now at rows.old result.header result.step rows.new
-        × Fielded result.header.upstream × Fielded result.header.target }
+    ensures { Reads (FromNodes (label_of label)) text.now at rows.old result rows.new }
 {
-    match drawing_nodes::nodes(text, at) {
-        Err(place) => DrawingRead {
-            step: Err(place),
-            header: header_for(label, 0),
-        },
-        Ok((first, states)) => {
-            let header = header_for(label, states);
-            let step = read_edges(text, first, header, rows);
-            DrawingRead { step, header }
-        }
-    }
+    let (first, states) = drawing_nodes::nodes(text, at)?;
+    let header = header_for(label, states);
+    let next = read_edges(text, first, header, rows)?;
+    Ok(DrawingRead { header, next })
 }
 
 // A whole drawing, from the front of the text.
-fn read(text: &[u8], rows: &mut [u16]) -> DrawingRead
+fn read(text: &[u8], rows: &mut [u16]) -> Result<DrawingRead, usize>
     requires { 255 * stride ≤ length rows.old }
-    ensures { ReadsDrawn WholePart text.now 0 rows.old result.header result.step rows.new
-        × Fielded result.header.upstream × Fielded result.header.target }
+    ensures { Reads WholePart text.now 0 rows.old result rows.new }
 {
-    let label = drawing_label::label(text);
-    let step = label.step;
-    match step {
-        Err(place) => DrawingRead {
-            step: Err(place),
-            header: header_for(label, 0),
-        },
-        Ok(at) => read_nodes(text, at, label, rows),
-    }
+    let label = drawing_label::label(text)?;
+    read_nodes(text, label.next, label, rows)
 }
 
 // The image of the machine that a text draws, or nothing where it draws none or the image does not fit.
@@ -107,17 +89,15 @@ pub fn undraw(text: &[u8], out: &mut [u8]) -> Answer
         return Err(Refusal::OverLimit);
     }
     let mut rows = [0u16; WORDS];
-    let drawing = read(text, &mut rows);
-    let step = drawing.step;
-    let header = drawing.header;
-    match step {
-        Err(place) => Err(Refusal::NotOfTheForm(place)),
-        Ok(end) => {
-            if end != text.len() {
-                return Err(Refusal::NotOfTheForm(end));
-            }
-            let n = ground::wide(header.states) * STRIDE;
-            writer::write(header, &rows[..n], out)
-        }
+    let drawing = match read(text, &mut rows) {
+        Err(place) => return Err(Refusal::NotOfTheForm(place)),
+        Ok(drawing) => drawing,
+    };
+    let end = drawing.next;
+    if end != text.len() {
+        return Err(Refusal::NotOfTheForm(end));
     }
+    let header = drawing.header;
+    let n = ground::wide(header.states) * STRIDE;
+    writer::write(header, &rows[..n], out)
 }

@@ -9,5 +9,5 @@ returns-in-Fence c = search (named_fence, rules)
 pub returns-in-Access : goal.returns-in-Access
 returns-in-Access c = search (named_access, rules)
 
-pub returns-in-Nothing : goal.returns-in-Nothing
-returns-in-Nothing c = search (named_nothing, rules)
+pub returns-in-None : goal.returns-in-None
+returns-in-None c = search (named_nothing, rules)

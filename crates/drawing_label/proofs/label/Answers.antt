@@ -1,9 +1,9 @@
 -- `label` meets its contract: a name is what stands in its field before the zeros. Assumes nothing.
-use Rattle.std.proofs.Common.{Result}
-use Prim.Native.Nat.{ℕ, zero-le}
+use Rattle.std.proofs.Common.{Result, Ok, Err}
+use Prim.Native.Nat.{ℕ}
 use mathlib.Core.Path.{◌≡◌, refl, sym, ap, ap₂, subst, ◌∙◌}
 use mathlib.Core.List.{List}
-use lib.ListN.{replicate}
+use borrow.Author.Rules.{rules}
 use Rattle.texts.specs.Telling.{took, Finds}
 use Rattle.printing.specs.Name.{unfilled}
 use Rattle.drawing_label.specs.declared.Places.{Places}
@@ -26,31 +26,25 @@ names-told t l e f =
 fielded : (t : List ℕ) (i : ℕ) {x : List ℕ} → x ≡ field (name_from t i) → Fielded x
 fielded t i e = ap (λ (y : List ℕ). field (unfilled y)) e ∙ ap field (unfilled_from t i) ∙ sym e
 
-no_name : Fielded (replicate 16 0)
-unfolding unfilled
-no_name = refl
-
-pub returns-in-Err : goal.returns-in-Err
-returns-in-Err c =
-    let t : List ℕ = c.args.text.now in (
-      subst (λ (r : Result Places ℕ). Finds LabelPart t 0 (places_taken t r)) c.in-Err.is c.label_places.ensures,
-      record { way = zero-le; ups = zero-le; targets = zero-le; upstream = no_name; target = no_name; bare = refl },
-    )
-
-pub returns-in-Ok : goal.returns-in-Ok
-unfolding with_names
-returns-in-Ok c =
-    let l = c.in-Ok.l in
+pub returns-in_err-l : goal.returns-in_err-l
+returns-in_err-l c =
     let t : List ℕ = c.args.text.now in
-    let told = subst (λ (r : Result Places ℕ). Finds LabelPart t 0 (places_taken t r)) c.in-Ok.is c.label_places.ensures in
+    let told = subst (λ (r : Result Places ℕ). Finds LabelPart t 0 (places_taken t r)) {y = Err c.in_err-l.field-0.0} (search rules) c.label_places.ensures in
+    search (rules, told)
+
+pub returns : goal.returns
+unfolding with_names
+returns c =
+    let l = c.in_ok-l.l in
+    let t : List ℕ = c.args.text.now in
+    let told = subst (λ (r : Result Places ℕ). Finds LabelPart t 0 (places_taken t r)) {y = Ok l} (search rules) c.label_places.ensures in
     let formed = told_formed told in (
-      subst (λ (x : Label). Finds LabelPart t 0 (took l.next x)) (names-told t l c.name_field-upstream.ensures c.name_field-target.ensures) told,
+      subst (λ (x : Label). Finds LabelPart t 0 (took l.next x)) (names-told t l c.name_field.ensures c.name_field-2.ensures) told,
       record {
         way = formed.way;
         ups = formed.ups;
         targets = formed.targets;
-        upstream = fielded t l.upstream c.name_field-upstream.ensures;
-        target = fielded t l.target c.name_field-target.ensures;
-        bare = tt;
+        upstream = fielded t l.upstream c.name_field.ensures;
+        target = fielded t l.target c.name_field-2.ensures;
       },
     )

@@ -1,20 +1,17 @@
 -- `read` meets its contract: the label, and what is behind it. Assumes nothing.
-use Rattle.drawing_reader.proofs.Reading.{label_stop, label_go}
+use borrow.Author.Rules.{rules}
+use Rattle.drawing_reader.proofs.Reading.{label_stop, label_formed, label_go}
 use Rattle.drawing_reader.proofs.read.Goals as goal
 
-pub returns-in-Err : goal.returns-in-Err
-returns-in-Err c =
-    let t = c.args.text.now in (
-      label_stop t c.label-label.result c.label-label.ensures.0 c.in-Err.is _ _,
-      c.header_for.ensures.2,
-      c.header_for.ensures.3,
-    )
+pub returns-in_err-label : goal.returns-in_err-label
+returns-in_err-label c =
+    let stop = label_stop c.args.text.now c.label.ensures.0 {p = c.in_err-label.field-0.0} (search rules) in
+    search (rules, stop)
 
-pub returns-in-Ok : goal.returns-in-Ok
-returns-in-Ok c =
-    let t = c.args.text.now in (
-      label_go t c.label-label.result c.label-label.ensures.0 c.in-Ok.is _ _ _
-          c.read_nodes.ensures.0,
-      c.read_nodes.ensures.1,
-      c.read_nodes.ensures.2,
-    )
+pub read_nodes-requires : goal.read_nodes-requires
+read_nodes-requires c =
+    let formed = label_formed c.args.text.now c.label.ensures.0 c.in_ok-label.label (search rules) in
+    search (rules, formed)
+
+pub returns : goal.returns
+returns c = label_go c.args.text.now c.label.ensures.0 c.in_ok-label.label (search rules) _ _ _ c.read_nodes.ensures

@@ -9,20 +9,17 @@ use Rattle.drawing_reader.proofs.undraw.Goals as goal
 pub returns-then-text-gt-LIMIT : goal.returns-then-text-gt-LIMIT
 returns-then-text-gt-LIMIT c = record { given = refuses _; right = over (search rules); delivered = delivers_refusal _ }
 
-pub returns-then-end-text : goal.returns-then-end-text
-returns-then-end-text c =
-    let no = read_passed c.args.text.now c.read-drawing.result.header _ c.read-drawing.ensures.0 c.in-Ok.is
-    c.if-end-text.true in
-    record { given = refuses _; right = departs (search rules) no.0 no.1; delivered = delivers_refusal _ }
-
 pub returns-in-Err : goal.returns-in-Err
 returns-in-Err c =
-    let no = read_stuck c.args.text.now c.read-drawing.result.header _ c.read-drawing.ensures.0 c.in-Err.is in
+    let no = read_stuck c.args.text.now _ c.read.ensures c.in-Err.is in
     record { given = refuses _; right = departs (search rules) no.0 no.1; delivered = delivers_refusal _ }
 
-pub returns-else-end-text : goal.returns-else-end-text
-returns-else-end-text c =
-    let is = read_whole c.args.text.now c.read-drawing.result.header _ c.read-drawing.ensures.0 c.in-Ok.is
-    c.if-end-text.false
-    c.read-drawing.ensures.1 c.read-drawing.ensures.2 c.wide-n.ensures.0 in
+pub returns-then-end-text : goal.returns-then-end-text
+returns-then-end-text c =
+    let no = read_passed c.args.text.now _ c.read.ensures _ c.in-Ok.is c.if-end-text.true in
+    record { given = refuses _; right = departs (search rules) no.0 no.1; delivered = delivers_refusal _ }
+
+pub returns : goal.returns
+returns c =
+    let is = read_whole c.args.text.now _ c.read.ensures _ c.in-Ok.is c.if-end-text.false c.wide-n.ensures.0 in
     record { given = gives _ 0 0; right = undrawn (search rules) is.0 is.1; delivered = c.write.ensures }

@@ -1,6 +1,6 @@
 -- The whole of a drawing as one part of a text: the label, the nodes up to the `0` of the first edge, and the edges from that `0` on. That its
 -- texts are the drawings is proved in proofs/Whole.
-use Rattle.std.specs.Prelude.{ℕ, ◌*◌, ◌/◌, ◌%◌, ◌≡◌, List, [], length, get_or, Ok, Err}
+use Rattle.std.specs.Prelude.{ℕ, ◌*◌, ◌/◌, ◌%◌, ◌≡◌, List, [], length, get_or, Result, Ok, Err}
 use Rattle.ground.specs.Bytes.{at, bytes}
 use Rattle.operations.specs.Alphabet.{letters_with, stride}
 use Rattle.texts.specs.Step.{Step}
@@ -9,7 +9,8 @@ use Rattle.texts.specs.Telling.{Then, Through, After, Word, Taken, took, stopped
 use Rattle.image.specs.declared.machine.Header.{Header}
 use Rattle.image.specs.Image.{listed}
 use Rattle.drawing_edges.specs.declared.Shape.{Shape}
-use Rattle.drawing_label.specs.Label.{Label, LabelPart, field, label_for}
+use Rattle.drawing_label.specs.Label.{Label, LabelPart, field, label_for, Fielded}
+use Rattle.drawing_reader.specs.declared.DrawingRead.{DrawingRead}
 use Rattle.drawing_nodes.specs.Nodes.{NodesPart}
 use Rattle.drawing_reader.specs.inner.Rows.{RowsPart, rows_told, Within}
 
@@ -63,3 +64,8 @@ pub record ReadsDrawn (L : Telling Drawn) (t : List ℕ) (start : ℕ) (rows : L
   pub size : length rows' ≡ length rows
   pub found : Finds L t start (drawn_taken h rows' r)
   pub rest : (i : ℕ) → (Within (letters_with h.ups) h.states i → ⊥) → at rows' i ≡ at rows i
+
+-- the same where what was read is told, or the place at which the text departs from the part; the names that were read fill their fields
+abbrev pub Reads : Telling Drawn → List ℕ → ℕ → List ℕ → Result DrawingRead ℕ → List ℕ → Type 0
+Reads L t start rows (Ok d) rows' = ReadsDrawn L t start rows d.header (Ok d.next) rows' × Fielded d.header.upstream × Fielded d.header.target
+Reads L t start rows (Err p) rows' = Finds L t start (stopped p)
