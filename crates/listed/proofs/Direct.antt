@@ -12,6 +12,7 @@ use lib.ListN.{length, take, drop, length-append}
 use lib.Seq.{take-append_seam}
 use Rattle.ground.proofs.Truths.{differ}
 use Rattle.answers.specs.declared.Refusal.{Refusal}
+use Rattle.answers.specs.declared.Done.{Done}
 use Rattle.answers.specs.Answer.{Answer, done}
 use Rattle.answers.specs.Given.{Given, gives, refuses, answer_of, buffer_of, Delivers}
 use Rattle.answers.proofs.Laws.{buffer_fits, answer_fits}
@@ -72,18 +73,18 @@ module _ (m : Models) (stream buffer : List ℕ) (size : length buffer ≡ 8192)
           let z : why ≡ w = cc in
           ap refuses (sym z)
 
-  pub run_taken : {w f s : ℕ} → r ≡ Ok (done w f s) → Taken (run_given m stream) w f after
-  run_taken {w} {f} {s} e = by (run_given m stream) refl (run_short m stream) (sym e ∙ d.answer) d.buffer
+  pub run_taken : {d : Done} → r ≡ Ok d → Taken (run_given m stream) d.written d.fences after
+  run_taken {d = ran} e = by (run_given m stream) refl (run_short m stream) (sym e ∙ d.answer) d.buffer
     where
-      by : (y : Given) → run_given m stream ≡ y → Short y → Ok (done w f s) ≡ answer_of y (length buffer) → after ≡ buffer_of y buffer
-          → Taken (run_given m stream) w f after
+      by : (y : Given) → run_given m stream ≡ y → Short y → Ok ran ≡ answer_of y (length buffer) → after ≡ buffer_of y buffer
+          → Taken (run_given m stream) ran.written ran.fences after
       by (gives bytes g z) is h e b =
-          let same : Ok (done w f s) ≡ Ok (done (length bytes) g z) = e ∙ answer_fits bytes g z (length buffer) (omega (arith, h.0)) in
-          let n : w ≡ length bytes = cc in
-          let counted : f ≡ g = cc in
+          let same : Path Answer (Ok ran) (Ok (done (length bytes) g z)) = e ∙ answer_fits bytes g z (length buffer) (omega (arith, h.0)) in
+          let n : ran.written ≡ length bytes = cc in
+          let counted : ran.fences ≡ g = cc in
           let all : after ≡ bytes ++ drop (length bytes) buffer = b ∙ buffer_fits bytes buffer (omega (arith, h.0)) in
-          let t : take w after ≡ bytes =
-          ap (take w) all
+          let t : take ran.written after ≡ bytes =
+          ap (take ran.written) all
           ∙ ap (λ (k : ℕ). take k (bytes ++ drop (length bytes) buffer)) n
           ∙ take-append_seam bytes (drop (length bytes) buffer) in
           record {

@@ -21,9 +21,8 @@ use Rattle.printing.specs.Putting.{Put, Fronts}
 use Rattle.printing.proofs.Names.{unfilled_short}
 use Rattle.printing.proofs.Putting.{put_fronts}
 use Rattle.shims.specs.declared.Models.{Models}
-use Rattle.shims.specs.Opening.{Opening}
 use Rattle.shims.specs.Models.{model_of}
-use Rattle.shims.specs.Opening.{opened_by}
+use Rattle.shims.specs.Opening.{opening, opened_by}
 use Rattle.shims.proofs.Theorems.{opens}
 use Rattle.shims.proofs.Fences.{few_read, few_fences}
 use Rattle.operations.specs.Operation.{fence_bytes}
@@ -86,17 +85,10 @@ module _ (m : Models) (sixteen : Sixteen m) (output : List ℕ) (fences : ℕ) (
   }
 
 -- models that were read
-sixteen_read : (read : Option Way) (upstream target : List ℕ) → (opened_by read upstream target).verdict ≡ (Ok tt)
-    → Sixteen (opened_by read upstream target).models
-sixteen_read read upstream target e =
-    let o = opens read upstream target e in
+pub sixteen_opened : {models : Models} (way : Way) (upstream target : List ℕ) → opened_by (Some way) upstream target ≡ opening models → Sixteen models
+sixteen_opened way upstream target e =
+    let o = opens (Some way) upstream target e in
     record { upstream = few_read upstream o.upstream_read; target = few_read target o.target_read }
-
-pub sixteen_opened : {o : Opening} (way : Way) (upstream target : List ℕ) → o ≡ opened_by (Some way) upstream target
-    → o.verdict ≡ (Ok tt) → Sixteen o.models
-sixteen_opened way upstream target is e =
-    subst (λ (x : Opening). Sixteen x.models) (sym is)
-    (sixteen_read (Some way) upstream target (sym (ap (λ (x : Opening). x.verdict) is) ∙ e))
 
 -- the next state of a word is below 256
 next_small : (w : ℕ) → next_state (decoded w) < 1000

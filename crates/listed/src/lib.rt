@@ -9,7 +9,7 @@ ghost use Rattle.listed.specs.Parts.{MachineListed, ModelsListed, PartsListed};
 ghost use Rattle.listed.specs.inner.Limits.{Listable, Sixteen, RunOutput};
 ghost use Rattle.listed.specs.inner.Making.{made_listing, made_given, MadeListable};
 
-use answers::{Answer, Refusal, Verdict};
+use answers::{Answer, Refusal};
 use machine::machine::{Machine, Outcome};
 use operations::alphabet::WORDS;
 use rule::way::Way;
@@ -55,10 +55,7 @@ fn list_made<'a>(
     ensures { Delivers (made_given made models rows.now output.now fences)
         out.old result out.new }
 {
-    match made {
-        Ok(machine) => write_listing(models, machine, rows, output, fences, out),
-        Err(why) => Err(why),
-    }
+    write_listing(models, made?, rows, output, fences, out)
 }
 
 // Makes the machine of two models and lists it with a run's output. It owns the machine's rows, which hold 255 states.
@@ -77,15 +74,8 @@ fn list_models(models: Models, stream: &[u8], out: &mut [u8]) -> Answer
     ensures { Answers (ModelsListed models stream.now) out.old result out.new }
 {
     let mut output = [0u8; 8192];
-    let answer = runs::run_models(models, stream, &mut output);
-    match answer {
-        Err(why) => Err(why),
-        Answer::Done {
-            written,
-            fences,
-            state: _,
-        } => list_machine(models, &output[..written], fences, out),
-    }
+    let ran = runs::run_models(models, stream, &mut output)?;
+    list_machine(models, &output[..ran.written], ran.fences, out)
 }
 
 // Lists the parts of an input: the texts are read, each once.
@@ -104,11 +94,5 @@ pub fn list_parts<'a>(
     }))
         out.old result out.new }
 {
-    let opening = shims::read_texts(way, upstream, target);
-    let verdict = opening.verdict;
-    let models = opening.models;
-    match verdict {
-        Err(why) => Err(why),
-        Ok(()) => list_models(models, stream, out),
-    }
+    list_models(shims::read_texts(way, upstream, target)?, stream, out)
 }
