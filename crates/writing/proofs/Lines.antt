@@ -1,5 +1,6 @@
 -- The lines of a model's fences, put one behind another. Assumes nothing.
-use Prim.Native.Nat.{ℕ, zero, suc, ◌+◌, ◌-◌, ◌≤◌, ◌<◌}
+use Prim.Native.Nat.{ℕ, zero, suc, ◌+◌, ◌-◌, ◌≤◌, ◌<◌, min}
+use native.Mathlib.Decide.{dec_le}
 use mathlib.Core.Path.{◌≡◌, refl, sym, ap, ◌∙◌}
 use mathlib.Core.List.{List, [], ◌∷◌, ◌++◌, append-nil}
 use native.Mathlib.Numerals.{add-one}
@@ -59,8 +60,12 @@ module _ (names : List Name) (tables : List ℕ) where
       ∙ ap fences_text (sym (ap (λ (n : ℕ). fences_of n names tables) (add-one k) ∙ fences-suc k names tables d ln lt)))
       (put_then p q)
 
-  pub lines_put : {a b : List ℕ} {at r : ℕ} (k n : ℕ) → length names ≤ k → k ≤ n
+  pub lines_put : {a b : List ℕ} {at r : ℕ} (k n : ℕ) → k ≡ min n (length names)
       → Put a b at r (fences_text (fences_of k names tables)) → Put a b at r (fences_text (fences_of n names tables))
-  lines_put k n l h p =
-      let e : k + (n - k) ≡ n = omega arith in
-      put_is (ap fences_text (sym (fences_cap k (n - k) names tables l) ∙ ap (λ (i : ℕ). fences_of i names tables) e)) p
+  lines_put k n is p = put_is (ap fences_text (by (dec_le (length names) k))) p
+    where
+      by : Dec (length names ≤ k) → fences_of k names tables ≡ fences_of n names tables
+      by (yes l) =
+          let e : k + (n - k) ≡ n = omega arith in
+          sym (fences_cap k (n - k) names tables l) ∙ ap (λ (i : ℕ). fences_of i names tables) e
+      by (no g) = ap (λ (i : ℕ). fences_of i names tables) (omega arith)

@@ -1,6 +1,5 @@
 use mathlib.Core.List.{[]}
 use native.Mathlib.Omega.{arith}
-use borrow.Author.Rules.{rules}
 use Rattle.printing.proofs.Putting.{put_none}
 use Rattle.writing.specs.Writing.{fences_of}
 use Rattle.writing.proofs.Lines.{line_put, lines_put}
@@ -8,22 +7,16 @@ use Rattle.writing.proofs.parts.put_fences.Goals as goal
 
 pub loop-i-init : goal.loop-i-init
 unfolding fences_of
-loop-i-init c = (search rules, search rules, search rules, search rules, put_none)
+loop-i-init c = put_none
 
 pub loop-i-preserved : goal.loop-i-preserved
 loop-i-preserved c =
     let l = c.loop-i in
     let a = c.args in
-    let v = l.invariant in (
-      search rules,
-      omega arith,
-      v.2,
-      v.3,
-      line_put a.names a.tables l.i (record { bytes = [] }) (omega arith) (omega arith) v.4 c.put_line-here.ensures,
-    )
+    line_put a.names a.tables l.i (record { bytes = [] }) (omega arith) (omega arith) l.invariant c.put_line-here.ensures
 
 pub returns : goal.returns
 returns c =
     let l = c.loop-i in
     let a = c.args in
-    lines_put a.names a.tables l.i a.fences (omega arith) l.invariant.1 l.invariant.4
+    lines_put a.names a.tables l.i a.fences (omega arith) l.invariant
