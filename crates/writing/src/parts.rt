@@ -67,9 +67,9 @@ fn put_fences(
     ensures { Put buf.old buf.new at result (fences_text (fences_of fences names tables)) }
 {
     let mut here = at;
-    for i in 0..fences.min(16) {
-        let table = Table { packed: tables[i] };
-        here = put_line(buf, here, b"fence ", names[i], b" ", table);
+    for (name, packed) in names.iter().zip(tables.iter()).take(fences) {
+        let table = Table { packed: *packed };
+        here = put_line(buf, here, b"fence ", *name, b" ", table);
     }
     here
 }
