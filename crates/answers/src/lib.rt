@@ -46,18 +46,18 @@ impl Refusal {
         ensures { result ≡ place_of self }
     {
         match self {
-            Refusal::OverLimit => 0,
-            Refusal::NotOfTheForm(at) => at as u64,
-            Refusal::FenceNameRepeats(at) => at as u64,
-            Refusal::NoOperation(at) => at as u64,
-            Refusal::NoSuchFence(at) => at as u64,
-            Refusal::NoFenceWillDo(at) => at as u64,
-            Refusal::BufferTooSmall => 0,
-            Refusal::TooManySituations => 0,
-            Refusal::TooManyStates => 0,
-            Refusal::BrokenBlock(at) => at as u64,
-            Refusal::BarredValue(at) => at as u64,
-            Refusal::OutOfRange => 0,
+            Refusal::NotOfTheForm(at)
+            | Refusal::FenceNameRepeats(at)
+            | Refusal::NoOperation(at)
+            | Refusal::NoSuchFence(at)
+            | Refusal::NoFenceWillDo(at)
+            | Refusal::BrokenBlock(at)
+            | Refusal::BarredValue(at) => at as u64,
+            Refusal::OverLimit
+            | Refusal::BufferTooSmall
+            | Refusal::TooManySituations
+            | Refusal::TooManyStates
+            | Refusal::OutOfRange => 0,
         }
     }
 }
@@ -93,21 +93,16 @@ pub fn numbers(answer: Answer) -> [u64; 5]
 }
 
 // Writes the text to the buffer, or nothing where it does not fit. A call that writes makes its text apart and ends with this.
-#[tactic(auto, using(crate::proofs::Laws::buffer_not, crate::proofs::Laws::answer_not, crate::proofs::Laws::answer_fits, crate::proofs::Laws::copied_more, crate::proofs::Laws::copied_all))]
+#[tactic(auto, using(crate::proofs::Laws::buffer_not, crate::proofs::Laws::answer_not, crate::proofs::Laws::answer_fits, crate::proofs::Laws::buffer_fits))]
 pub fn write_out(text: &[u8], fences: usize, state: usize, out: &mut [u8]) -> Answer
     ensures { Delivers (gives text.now fences state) out.old result out.new }
 {
-    let n = text.len();
-    if out.len() < n {
+    if out.len() < text.len() {
         return Err(Refusal::BufferTooSmall);
     }
-    let mut i = 0;
-    while i < n {
-        out[i] = text[i];
-        i += 1;
-    }
+    out[..text.len()].copy_from_slice(text);
     Ok(Done {
-        written: n,
+        written: text.len(),
         fences,
         state,
     })

@@ -1,25 +1,34 @@
--- The first place of a byte: met by a walk upwards from a place, at which it stands or not. Assumes nothing.
-use Rattle.std.proofs.Common.{ℕ, suc, ◌+◌, ◌≡◌, ◌≤◌, ◌<◌, List, length, drop, get_or, sym, ap, ◌∙◌, add-one, drop-cons, Bool, eqb}
-use lib.ListN.{drop_of_length-le}
-use borrow.Author.Tests.{eq-eqb, ne_eqb}
+-- The first place of a byte is what the library's `position` finds, and the length where it finds none. Assumes nothing.
+use Rattle.std.proofs.Common.{ℕ, ◌+◌, ◌≡◌, ◌≤◌, List, length, Bool, true, false, not, cond, eqb, ltb, Some, None, refl, sym, ◌∙◌, arith}
+use Rattle.std.specs.List.{position, position_or_len}
+use Rattle.std.proofs.lemmas.List.Sums.{prefix_len-le-length}
+use Rattle.std.proofs.lemmas.List.Recursion.{is_position_or_len}
+use borrow.Author.Tests.{ltb-false}
 use Rattle.ground.specs.Search.{index_of, index_after}
+use Rattle.ground.proofs.Truths.{differ}
 
-module _ (b : ℕ) (l : List ℕ) (i : ℕ) where
-  -- at a place of the list, by whether the byte stands there
-  at_place : i < length l → index_of b (drop i l) ≡ index_after (eqb (get_or l i 0) b) (index_of b (drop (suc i) l))
-  unfolding index_of
-  at_place h = ap (index_of b) (drop-cons l i 0 h)
+module _ (b : ℕ) where
+  abbrev here : ℕ → Bool
+  here x = eqb x b
 
-  pub found_here : i < length l → get_or l i 0 ≡ b → index_of b (drop i l) ≡ 0
-  unfolding index_after
-  found_here h e = at_place h ∙ ap (λ (q : Bool). index_after q (index_of b (drop (suc i) l))) (eq-eqb _ _ e)
+  first : (l : List ℕ) → index_of b l ≡ position_or_len here l
+  unfolding index_of index_after
+  first l = is_position_or_len (index_of b) here refl (λ x xs. by (here x) xs) l
+    where
+      by : (q : Bool) (xs : List ℕ) → index_after q (index_of b xs) ≡ cond q 0 (1 + index_of b xs)
+      by true xs = refl
+      by false xs = omega arith
 
-  pub not_here : i < length l → (get_or l i 0 ≡ b → ⊥) → index_of b (drop i l) ≡ index_of b (drop (i + 1) l) + 1
-  unfolding index_after
-  not_here h e =
-      at_place h ∙ ap (λ (q : Bool). index_after q (index_of b (drop (suc i) l))) (ne_eqb _ _ e)
-      ∙ sym (add-one (index_of b (drop (suc i) l))) ∙ ap (λ (n : ℕ). index_of b (drop n l) + 1) (sym (add-one i))
+  pub found : (l : List ℕ) (i : ℕ) → position here l ≡ Some i → i ≡ index_of b l
+  found l i e = by (ltb (position_or_len here l) (length l)) e ∙ sym (first l)
+    where
+      by : (q : Bool) → cond q (Some (position_or_len here l)) None ≡ Some i → i ≡ position_or_len here l
+      by true h = cc
+      by false h = differ (cc)
 
-  pub none_left : length l ≤ i → index_of b (drop i l) ≡ 0
-  unfolding index_of
-  none_left h = ap (index_of b) (drop_of_length-le l h)
+  pub not_found : (l : List ℕ) → position here l ≡ None → index_of b l ≡ length l
+  not_found l e = omega (arith, first l, prefix_len-le-length (λ (x : ℕ). not (here x)) l, by (ltb (position_or_len here l) (length l)) refl e)
+    where
+      by : (q : Bool) → ltb (position_or_len here l) (length l) ≡ q → cond q (Some (position_or_len here l)) None ≡ None → length l ≤ position_or_len here l
+      by true h e = differ (cc)
+      by false h e = ltb-false _ _ h

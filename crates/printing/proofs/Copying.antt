@@ -1,12 +1,11 @@
--- Laws of `put`: where a text fits and where it does not, and that after i turns the first i bytes of the text are copied. Assumes nothing.
+-- Laws of `put`: where a text fits and where it does not, and what is told of it there. Assumes nothing.
 use Prim.Native.Nat.{ℕ, suc, ◌+◌, ◌≤◌, ◌<◌}
 use mathlib.Core.Path.{◌≡◌, sym, ap, subst, ◌∙◌}
 use mathlib.Core.List.{List, ◌++◌}
 use native.Mathlib.Numerals.{add-one}
-use native.Mathlib.Omega.{arith}
 use borrow.Author.Tests.{le-leb, lt-leb}
-use lib.ListN.{length, take, drop, get_or, set}
-use lib.Seq.{take-length, paste, paste-suc}
+use lib.ListN.{length, take, drop}
+use lib.Seq.{take-length, paste}
 use Rattle.printing.specs.Printing.{placed, printed, Prints}
 
 module _ (room at n : ℕ) where
@@ -34,20 +33,11 @@ module _ (before text : List ℕ) (at : ℕ) where
     buffer = sym (printed_not l);
   }
 
-  -- the loop that copies
-  pub copied_more : (i : ℕ) → i < length text → at + length text ≤ length before
-      → set (paste before at text i) (at + i) (get_or text i 0) ≡ paste before at text (i + 1)
-  copied_more i li l = paste-suc before at text i 0 (omega arith) li ∙ ap (paste before at text) (sym (add-one i))
-
-  pub copied_all : {b : List ℕ} {i : ℕ} → i ≡ length text → at + length text ≤ length before → b ≡ paste before at text i
-      → Prints before b at (at + i) text
-  copied_all e l is = record {
-    place = ap (λ (n : ℕ). at + n) e ∙ sym (placed_fits (length before) at (length text) l);
-    buffer =
-        is
-        ∙ ap (paste before at text) e
-        ∙ ap (λ (t : List ℕ). take at before ++ t ++ drop (at + length text) before) (take-length text)
-        ∙ sym (printed_fits l);
+  -- where there is
+  pub prints_fits : {b : List ℕ} → at + length text ≤ length before → b ≡ paste before at text (length text) → Prints before b at (at + length text) text
+  prints_fits l is = record {
+    place = sym (placed_fits (length before) at (length text) l);
+    buffer = is ∙ ap (λ (t : List ℕ). take at before ++ t ++ drop (at + length text) before) (take-length text) ∙ sym (printed_fits l);
   }
 
 -- the same text under another description

@@ -1,31 +1,37 @@
 -- A name up to its first zero. Assumes nothing.
-use Prim.Native.Nat.{ℕ, suc, ◌+◌, ◌≤◌, ◌<◌}
-use mathlib.Core.Path.{◌≡◌, refl, ap}
-use mathlib.Core.Bool.{Bool, true, false, cond}
+use Prim.Native.Nat.{ℕ, suc, ◌+◌, ◌≤◌}
+use mathlib.Core.Path.{◌≡◌, refl, sym, ap, ◌∙◌}
+use mathlib.Core.Bool.{Bool, true, false, not, cond}
 use mathlib.Core.List.{List, [], ◌∷◌}
-use native.Mathlib.Numerals.{add-one}
 use native.Mathlib.Omega.{arith}
-use borrow.Author.Tests.{eq-eqb, ne_eqb}
-use lib.Dec.{eqb}
-use lib.ListN.{length, take, drop, get_or, drop_of_length-le}
-use lib.Seq.{drop-cons}
+use borrow.Author.Tests.{ltb-false}
+use lib.Dec.{eqb, ltb}
+use lib.ListN.{length, take}
+use Rattle.std.proofs.Common.{Some, None}
+use Rattle.std.specs.List.{position, position_or_len}
+use Rattle.std.specs.Option.{unwrap_or}
+use Rattle.std.proofs.lemmas.List.Sums.{prefix_len-le-length}
+use Rattle.std.proofs.lemmas.List.Recursion.{is_position_or_len}
 use Rattle.printing.specs.Name.{unfilled}
 
--- nothing before a place is zero
-module _ (l : List ℕ) (n : ℕ) (whole : length (unfilled l) ≡ n + length (unfilled (drop n l))) where
-  here : n < length l → unfilled (drop n l) ≡ cond (eqb (get_or l n 0) 0) [] (get_or l n 0 ∷ unfilled (drop (suc n) l))
-  unfolding unfilled
-  here h = ap unfilled (drop-cons l n 0 h)
+-- the library's `position` of the first zero, and the length where there is none
+abbrev zero : ℕ → Bool
+zero b = eqb b 0
 
-  pub unfilled-zero : n < length l → get_or l n 0 ≡ 0 → n ≡ length (unfilled l)
-  unfilled-zero h z = omega (arith, ap length (simp (eq-eqb _ _ z) at (here h)))
+pub first_zero : (l : List ℕ) → unwrap_or (position zero l) (length l) ≡ length (unfilled l)
+unfolding unfilled
+first_zero l =
+    by (ltb (position_or_len zero l) (length l)) refl
+    ∙ sym (is_position_or_len (λ (m : List ℕ). length (unfilled m)) zero refl (λ x xs. one (zero x) x xs) l)
+  where
+    one : (q : Bool) (x : ℕ) (xs : List ℕ) → length (cond q [] (x ∷ unfilled xs)) ≡ cond q 0 (1 + length (unfilled xs))
+    one true x xs = refl
+    one false x xs = omega arith
 
-  pub unfilled_more : n < length l → (get_or l n 0 ≡ 0 → ⊥) → length (unfilled l) ≡ n + 1 + length (unfilled (drop (n + 1) l))
-  unfilled_more h z = rw (add-one n) (omega (arith, ap length (simp (ne_eqb _ _ z) at (here h))))
-
-  pub unfilled_end : length l ≤ n → n ≡ length (unfilled l)
-  unfolding unfilled
-  unfilled_end h = omega (arith, ap length (ap unfilled (drop_of_length-le l h)))
+    by : (q : Bool) → ltb (position_or_len zero l) (length l) ≡ q
+        → unwrap_or (cond q (Some (position_or_len zero l)) None) (length l) ≡ position_or_len zero l
+    by true e = refl
+    by false e = omega (arith, prefix_len-le-length (λ (b : ℕ). not (zero b)) l, ltb-false _ _ e)
 
 pub unfilled_front : (l : List ℕ) → take (length (unfilled l)) l ≡ unfilled l
 unfolding unfilled

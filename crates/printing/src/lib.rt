@@ -11,32 +11,19 @@ ghost use Rattle.printing.specs.Printing.{Prints};
 pub fn put(buffer: &mut [u8], at: usize, text: &[u8]) -> usize
     ensures { Prints buffer.old buffer.new at result text.now }
 {
-    if buffer.len() < at {
+    if buffer.len() < at || buffer.len() - at < text.len() {
         return buffer.len() + 1;
     }
-    if buffer.len() - at < text.len() {
-        return buffer.len() + 1;
-    }
-    let mut i = 0;
-    while i < text.len() {
-        buffer[at + i] = text[i];
-        i += 1;
-    }
-    at + i
+    let end = at + text.len();
+    buffer[at..end].copy_from_slice(text);
+    end
 }
 
 // How many bytes stand before the first zero.
 fn name_length(name: &[u8]) -> usize
     ensures { result ≡ length (unfilled name.now) }
 {
-    let mut n = 0;
-    while n < name.len() {
-        if name[n] == 0 {
-            return n;
-        }
-        n += 1;
-    }
-    n
+    name.iter().position(|b| *b == 0).unwrap_or(name.len())
 }
 
 // Puts a name, which zeros may fill up.

@@ -20,20 +20,16 @@ impl Strength {
     pub fn higher(self, other: Strength) -> Strength
         ensures { result.level ≡ max self.level other.level }
     {
-        if self.level < other.level {
-            other
-        } else {
-            self
+        Strength {
+            level: self.level.max(other.level),
         }
     }
 
     pub fn lower(self, other: Strength) -> Strength
         ensures { result.level ≡ min self.level other.level }
     {
-        if other.level < self.level {
-            other
-        } else {
-            self
+        Strength {
+            level: self.level.min(other.level),
         }
     }
 
@@ -47,30 +43,22 @@ impl Strength {
     pub fn of_letter(b: u8) -> Strength
         ensures { result.level ≡ level_of b }
     {
-        if b == b'N' {
-            return Strength::NON_ATOMIC;
+        match b {
+            b'N' => Strength::NON_ATOMIC,
+            b'M' => Strength::MULTIPLE,
+            b'S' => Strength::SINGLE,
+            _ => Strength::UNORDERED,
         }
-        if b == b'M' {
-            return Strength::MULTIPLE;
-        }
-        if b == b'S' {
-            return Strength::SINGLE;
-        }
-        Strength::UNORDERED
     }
 
     pub fn letter(self) -> u8
         ensures { result ≡ letter self.level }
     {
-        if self.at_least(Strength::SINGLE) {
-            return b'S';
+        match self.level {
+            0 => b'-',
+            1 => b'N',
+            2 => b'M',
+            _ => b'S',
         }
-        if self.at_least(Strength::MULTIPLE) {
-            return b'M';
-        }
-        if self.at_least(Strength::NON_ATOMIC) {
-            return b'N';
-        }
-        b'-'
     }
 }

@@ -3,13 +3,13 @@
 ghost use Rattle.std.specs.Prelude.{◌+◌, ◌*◌, ◌/◌, ◌^◌, ◌<◌, ◌≡◌};
 ghost use Rattle.std.specs.Int.Bits.{bit_and, bit_or, bit_xor};
 ghost use Rattle.tables.specs.Cells.{digit};
-ghost use Rattle.tables.specs.Table.{row_number, column_number, place, cells, cell, higher, lower, exceeding, at_least, row_table};
+ghost use Rattle.tables.specs.Table.{place, cells, cell, higher, lower, exceeding, at_least, row_table};
 ghost use Rattle.tables.specs.Table.{column_table, levels_table};
 ghost use Rattle.tables.specs.inner.Planes.{ones, over_plane, picked_table};
 
 use crate::strength::Strength;
 
-// The earlier access of a pair, by its kind.
+// The earlier access of a pair, by its kind, in the order of a table's rows: a cast gives a row's number.
 #[derive(Clone, Copy)]
 pub enum Row {
     Cld,
@@ -18,7 +18,7 @@ pub enum Row {
     St,
 }
 
-// The later access of a pair, by its kind.
+// The later access of a pair, by its kind, in the order of a table's columns.
 #[derive(Clone, Copy)]
 pub enum Column {
     Ld,
@@ -118,46 +118,22 @@ impl Table {
     }
 
     // The table of sixteen levels, row after row. Of a level above S only what fits a cell is taken.
+    #[tactic(auto, using(crate::proofs::Packed::packed_below, crate::proofs::Laws::levels_places))]
     pub fn of_levels(levels: [u8; 16]) -> Table
         ensures { result ≡ levels_table levels }
     {
         let mut t = 0;
-        let mut i = 0;
-        while i < 16 {
-            let level = levels[i] % 4;
-            t = with_digit(t, i as u64, level as u64);
-            i += 1;
+        for (i, level) in levels.iter().enumerate() {
+            t = with_digit(t, i as u64, u64::from(*level % 4));
         }
         Table { packed: t }
-    }
-}
-
-fn row_number(row: Row) -> u64
-    ensures { (result ≡ row_number row) × (result < 4) }
-{
-    match row {
-        Row::Cld => 0,
-        Row::Cst => 1,
-        Row::Ld => 2,
-        Row::St => 3,
-    }
-}
-
-fn column_number(column: Column) -> u64
-    ensures { (result ≡ column_number column) × (result < 4) }
-{
-    match column {
-        Column::Ld => 0,
-        Column::Cld => 1,
-        Column::St => 2,
-        Column::Cst => 3,
     }
 }
 
 fn place_of(row: Row, column: Column) -> u64
     ensures { (result ≡ place row column) × (result < cells) }
 {
-    4 * row_number(row) + column_number(column)
+    4 * (row as u64) + column as u64
 }
 
 fn digit_at(t: u64, i: u64) -> u64

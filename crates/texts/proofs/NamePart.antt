@@ -12,6 +12,7 @@ use borrow.Author.Tests.{lt-ltb, le-ltb, eq-eqb, ne_eqb}
 use lib.Dec.{T}
 use lib.ListN.{length, take, drop, get_or, length-append, get_or-append}
 use lib.Seq.{length-take-le, take-suc, get_or_at, get_or-take, take_at}
+use Rattle.std.specs.List.{prefix_len}
 use Rattle.ground.specs.Bytes.{name_byte}
 use Rattle.texts.specs.Step.{Step}
 use Rattle.texts.specs.Language.{Language, Begins, Seq, Some, PrefixFree, Reads, found, stuck, shift, on_step, Judges}
@@ -49,6 +50,18 @@ run_is (suc limit) (b ∷ s) = by (name_byte b) (λ t. t) (λ t. t) (run_is limi
         → Run (suc limit) (b ∷ s) (cond q (suc (name_run limit s)) 0)
     by true to back r = run_more limit b s (name_run limit s) (to tt) r
     by false to back r = record { few = zero-le; within = zero-le; bytes = tt; ends = (λ l ls t. back t) }
+
+-- the same by the library's `prefix_len`
+pub run_counted : (limit : ℕ) (s : List ℕ) → prefix_len name_byte (take limit s) ≡ name_run limit s
+unfolding name_run
+run_counted zero s = refl
+run_counted (suc limit) [] = refl
+run_counted (suc limit) (b ∷ s) = by (name_byte b) (run_counted limit s)
+  where
+    by : (q : Bool) → prefix_len name_byte (take limit s) ≡ name_run limit s
+        → cond q (1 + prefix_len name_byte (take limit s)) 0 ≡ cond q (suc (name_run limit s)) 0
+    by true e = omega arith
+    by false e = refl
 
 pub run_within : (s : List ℕ) → name_run 16 s ≤ length s
 run_within s = (run_is 16 s).within

@@ -48,16 +48,8 @@ pub follow_done : (ps t : List ℕ) (i here : ℕ) → length ps ≤ i → follo
 unfolding follow
 follow_done ps t i here l = rw (drop_of_length-le ps l) (ap Ok (add-zero here))
 
--- a run of name bytes is over at the text's end, at another byte, or at the limit: n are all of them
+-- a run of name bytes is over at another byte, or at the limit: n are all of them
 module _ (t : List ℕ) (here n all limit : ℕ) (h : all ≡ n + name_run limit (drop here t)) where
-  pub run_over : length t ≤ here → n ≡ all
-  unfolding name_run
-  run_over l = omega (arith, none limit)
-    where
-      none : (k : ℕ) → name_run k (drop here t) ≡ 0
-      none zero = refl
-      none (suc k) = rw (drop_of_length-le t l)
-
   pub run_not : here < length t → name_byte (get_or t here 0) ≡ false → n ≡ all
   unfolding name_run
   run_not l f = omega (arith, none limit)

@@ -15,16 +15,7 @@ pub type Part = Result<(usize, usize), usize>;
 fn is_cell(b: u8) -> bool
     ensures { result ≡ cell_byte b }
 {
-    if b == b'-' {
-        return true;
-    }
-    if b == b'N' {
-        return true;
-    }
-    if b == b'M' {
-        return true;
-    }
-    b == b'S'
+    matches!(b, b'-' | b'N' | b'M' | b'S')
 }
 
 // In a pattern `?` stands for any cell.
@@ -32,9 +23,10 @@ fn fits_pattern(pattern: u8, b: u8) -> bool
     ensures { result ≡ fits pattern b }
 {
     if pattern == b'?' {
-        return is_cell(b);
+        is_cell(b)
+    } else {
+        b == pattern
     }
-    b == pattern
 }
 
 // A pattern at a place of the text.
@@ -60,19 +52,11 @@ pub fn follow(text: &[u8], at: usize, pattern: &[u8]) -> Step
 fn name_bytes(text: &[u8], at: usize) -> usize
     ensures { result ≡ name_run 16 (drop at text.now) }
 {
-    let mut here = at;
-    let mut n = 0;
-    while n < 16 {
-        if text.len() <= here {
-            return n;
-        }
-        if !ground::is_name_byte(text[here]) {
-            return n;
-        }
-        here += 1;
-        n += 1;
-    }
-    n
+    text.iter()
+        .skip(at)
+        .take(16)
+        .take_while(|b| ground::is_name_byte(**b))
+        .count()
 }
 
 // A name and the byte after it, at a place of the text.
@@ -96,10 +80,7 @@ pub fn name(text: &[u8], at: usize, end: u8) -> Step
 fn is_digit(b: u8) -> bool
     ensures { result ≡ is_digit b }
 {
-    if b < b'0' {
-        return false;
-    }
-    b <= b'9'
+    b.is_ascii_digit()
 }
 
 // What a number becomes by one more digit.
@@ -115,13 +96,7 @@ fn goes_on(value: usize, b: u8, bound: usize) -> bool
     requires { value < 256 }
     ensures { result ≡ digit_goes_on bound value b }
 {
-    if !is_digit(b) {
-        return false;
-    }
-    if value == 0 {
-        return false;
-    }
-    with_digit(value, b) < bound
+    is_digit(b) && value != 0 && with_digit(value, b) < bound
 }
 
 // What is left of a number of which `value` has been read, and the byte after it, at a place of the text.

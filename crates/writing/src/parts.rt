@@ -13,8 +13,7 @@ use tables::table::{Column, Row, Table};
 fn cell_letter(table: Table, row: Row, column: Column) -> u8
     ensures { result ≡ letter (cell table row column) }
 {
-    let s = table.cell(row, column);
-    s.letter()
+    table.cell(row, column).letter()
 }
 
 // A row and the byte after it.
@@ -51,9 +50,8 @@ fn put_line<'a>(
 ) -> usize
     ensures { Put buf.old buf.new at result (line_part keyword.now name separator.now table) }
 {
-    let bytes = name.bytes;
     let name_at = printing::put(buf, at, keyword);
-    let end = printing::put_name(buf, name_at, &bytes);
+    let end = printing::put_name(buf, name_at, &name.bytes);
     let table_at = printing::put(buf, end, separator);
     put_table(buf, table_at, table)
 }
@@ -69,15 +67,9 @@ fn put_fences(
     ensures { Put buf.old buf.new at result (fences_text (fences_of fences names tables)) }
 {
     let mut here = at;
-    let mut i = 0;
-    while i < 16 {
-        if fences <= i {
-            return here;
-        }
-        let name = names[i];
-        let packed = tables[i];
-        here = put_line(buf, here, b"fence ", name, b" ", Table { packed });
-        i += 1;
+    for (name, packed) in names.iter().zip(tables.iter()).take(fences) {
+        let table = Table { packed: *packed };
+        here = put_line(buf, here, b"fence ", *name, b" ", table);
     }
     here
 }
@@ -86,9 +78,7 @@ fn put_fences(
 pub(crate) fn put_model(buf: &mut [u8], model: Model) -> usize
     ensures { Put buf.old buf.new 0 result (text_of (described model)) }
 {
-    let names = model.names;
-    let tables = model.tables;
     let fences_at = put_line(buf, 0, b"model ", model.name, b"\nppo ", model.ppo);
-    let end = put_fences(buf, fences_at, model.fences, names, tables);
+    let end = put_fences(buf, fences_at, model.fences, model.names, model.tables);
     printing::put(buf, end, b"end\n")
 }

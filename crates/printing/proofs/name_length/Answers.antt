@@ -1,19 +1,16 @@
-use native.Mathlib.Omega.{arith}
-use borrow.Author.Rules.{rules}
-use Rattle.printing.proofs.Names.{unfilled-zero, unfilled_more, unfilled_end}
+-- `name_length` meets its contract: the first zero is where `position` finds one. Assumes nothing.
+use Rattle.std.proofs.Common.{ℕ, Option, rules, ◌∙◌, ap, eqb, length}
+use Rattle.std.proofs.lemmas.Iterator.{YieldsList-from_slice}
+use Rattle.std.proofs.lemmas.Iterator.Search.{position_from_yields_List}
+use Rattle.std.specs.Option.{unwrap_or}
+use borrow.Author.Tests.{tests}
+use Rattle.printing.proofs.Names.{first_zero}
 use Rattle.printing.proofs.name_length.Goals as goal
-
-pub returns-then-name-n-eq0 : goal.returns-then-name-n-eq0
-returns-then-name-n-eq0 c =
-    let l = c.loop-n in
-    unfilled-zero c.args.name.now l.n l.invariant.1 (omega arith) c.if-name-n-eq0.true
-
-pub loop-n-preserved : goal.loop-n-preserved
-loop-n-preserved c =
-    let l = c.loop-n in
-    (search rules, unfilled_more c.args.name.now l.n l.invariant.1 (omega arith) c.if-name-n-eq0.false)
 
 pub returns : goal.returns
 returns c =
-    let l = c.loop-n in
-    unfilled_end c.args.name.now l.n l.invariant.1 (omega arith)
+    let name = c.args.name.now in
+    let looked =
+    position_from_yields_List (λ (b : ℕ). eqb b 0) _ _ c.position.result c.position.ensures.ran
+    (YieldsList-from_slice name cc) (λ x b q k. search (rules, tests)) in
+    c.unwrap_or.ensures ∙ ap (λ (o : Option ℕ). unwrap_or o (length name)) looked ∙ first_zero name
