@@ -43,13 +43,11 @@ fn access_step(fence: usize, next: usize) -> Step
     requires { next < 256 }
     ensures { (result ≡ access_step fence next) × Small result }
 {
-    if fence == 254 {
-        return Step::Stopped(Stop::NoFenceWillDo);
+    match fence {
+        254 => Step::Stopped(Stop::NoFenceWillDo),
+        255 => Step::Taken(Move::Plain(next)),
+        _ => Step::Taken(Move::Fenced(operations::byte_of(Operation::Fence(fence)), next)),
     }
-    if fence == 255 {
-        return Step::Taken(Move::Plain(next));
-    }
-    Step::Taken(Move::Fenced(operations::byte_of(Operation::Fence(fence)), next))
 }
 
 fn take_access(image: &[u8], state: usize, kind: Kind) -> Step
