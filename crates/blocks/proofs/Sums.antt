@@ -1,5 +1,5 @@
 -- One's complement sums: one word more, and equal words have equal sums. Assumes nothing.
-use Prim.Native.Nat.{ℕ, zero, suc, ◌+◌, ◌-◌, ◌*◌, ◌<◌}
+use Prim.Native.Nat.{ℕ, zero, suc, ◌+◌, ◌-◌, ◌*◌, ◌<◌, ◌≤◌}
 use mathlib.Core.Path.{◌≡◌, refl, sym, ap, ap₂, ◌∙◌}
 use mathlib.Core.List.{List}
 use native.Mathlib.Nat.{add_assoc}
@@ -17,12 +17,8 @@ sum_more bytes from k s w s' e v h =
     h ∙ ap₂ plus e (v ∙ ap (λ (y : ℕ). two_bytes (at bytes (from + 2 * k)) (at bytes y)) (add_assoc from (2 * k) 1))
     ∙ ap (λ (n : ℕ). sum_of n (word_of (λ (p : ℕ). at bytes (from + p)))) (sym (add-one k))
 
-pub sum_all : (word : ℕ → ℕ) (k n s : ℕ) → s ≡ sum_of k word → k ≡ n → 65535 - s ≡ 65535 - sum_of n word
-sum_all word k n s h e = ap (λ (x : ℕ). 65535 - x) (h ∙ ap (λ (i : ℕ). sum_of i word) e)
-
-pub sum-none : (word : ℕ → ℕ) → 0 ≡ sum_of 0 word
-unfolding sum_of
-sum-none word = refl
+pub sum_end : (word : ℕ → ℕ) (k n s : ℕ) → s ≡ sum_of k word → k ≤ n → n ≤ k → 65535 - s ≡ 65535 - sum_of n word
+sum_end word k n s h u l = let e : k ≡ n = omega arith in ap (λ (x : ℕ). 65535 - x) (h ∙ ap (λ (i : ℕ). sum_of i word) e)
 
 -- sums of equal words are equal
 pub sum_same : (n : ℕ) (f g : ℕ → ℕ) → ((k : ℕ) → k < n → f k ≡ g k) → sum_of n f ≡ sum_of n g

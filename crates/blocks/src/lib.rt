@@ -25,15 +25,14 @@ fn plus(a: usize, b: usize) -> usize
 }
 
 // The Internet checksum (RFC 1071) of the 510 bytes that begin at `from`.
+#[tactic(auto, using(crate::proofs::Sums::sum_more), unfolding(crate::specs::Checksum::sum_of))]
 fn check(bytes: &[u8], from: usize) -> usize
     requires { from + 510 ≤ length bytes.now }
     ensures { (result ≡ checksum 255 (λ (p : ℕ). at bytes.now (from + p))) × (result < 65536) }
 {
     let mut sum = 0;
-    let mut k = 0;
-    while k < 255 {
+    for k in 0..255 {
         sum = plus(sum, two_bytes(bytes, from + 2 * k));
-        k += 1;
     }
     65535 - sum
 }
@@ -58,11 +57,7 @@ fn is_wrong(image: &[u8], b: usize) -> bool
         return true;
     }
     let from = 512 * b;
-    let number = two_bytes(image, from);
-    if number != b {
-        return true;
-    }
-    two_bytes(image, from + 510) != check(image, from)
+    two_bytes(image, from) != b || two_bytes(image, from + 510) != check(image, from)
 }
 
 // The lowest wrong one of so many blocks.

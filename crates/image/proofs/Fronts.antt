@@ -1,16 +1,17 @@
 -- Lists that are filled from the front, value by value: a list is known by its length and its values. Assumes nothing.
-use Prim.Native.Nat.{ℕ, zero, suc, ◌+◌, ◌-◌, ◌<◌, ◌≤◌}
+use Prim.Native.Nat.{ℕ, zero, suc, ◌+◌, ◌<◌, ◌≤◌}
 use mathlib.Core.Path.{◌≡◌, refl, sym, ap, subst, ◌∙◌}
 use mathlib.Core.List.{List, [], ◌∷◌, ◌++◌}
-use native.Mathlib.Decide.{ℕ_discrete, dec_lt}
+use native.Mathlib.Decide.{ℕ_discrete}
 use native.Mathlib.Omega.{arith}
-use borrow.Author.Tests.{le-leb}
-use lib.ListN.{length, set, take, drop, length-append, length-set, length-drop, get_or-append}
-use lib.Seq.{get_or-set_same, get_or-set_other, get_or_at, get_or-append-add, get_or-drop, ext_get_or, get_or-take, length-take-le}
+use denote.Param.Members.{Mut}
+use Rattle.std.specs.Array.{IsFromFnResult, IsFromFnResultFrom}
+use Rattle.std.specs.Fn.{Called}
+use lib.ListN.{length, set, take, length-append, length-set, get_or-append}
+use lib.Seq.{get_or-set_same, get_or-set_other, get_or_at, ext_get_or, get_or-take, length-take-le}
 use Rattle.ground.specs.Bytes.{at}
-use Rattle.answers.specs.Buffer.{buffer_with}
 use Rattle.image.specs.Image.{listed}
-use Rattle.image.specs.inner.Filling.{Front, Filled}
+use Rattle.image.specs.inner.Filling.{Front}
 
 pub length-listed : (n : ℕ) (f : ℕ → ℕ) → length (listed n f) ≡ n
 unfolding listed
@@ -33,6 +34,23 @@ pub is_listed : (n : ℕ) (f : ℕ → ℕ) (l : List ℕ) → length l ≡ n �
 is_listed n f l e h =
     ext_get_or 0 l (listed n f) (e ∙ sym (length-listed n f)) (λ i k. h i (omega arith) ∙ sym (at_listed n f i (omega arith)))
 
+-- an array that calls of a closure gave, index by index, where each call gives the value of f
+module _ {F : Type 0} (g : Mut F (ℕ × Unit {0}) ℕ) (closure : F) (f : ℕ → ℕ) (l : List ℕ)
+    (gives : (i v : ℕ) (after : F) → Called g closure (i, tt) v after → (after ≡ closure) × (v ≡ f i)) where
+  given_from : (i n : ℕ) → IsFromFnResultFrom g closure l i n → (k : ℕ) → i ≤ k → k < i + n → at l k ≡ f k
+  given_from i zero r k low high = absurd (omega arith)
+  given_from i (suc n) r k low high =
+      let here = gives i r.1 r.0 r.3 in
+      let rest = subst (λ (q : F). IsFromFnResultFrom g q l (i + 1) n) here.0 r.4 in
+      go here.1 (ℕ_discrete k i) (λ more. given_from (i + 1) n rest k more (omega arith))
+    where
+      go : r.1 ≡ f i → Dec (k ≡ i) → (i + 1 ≤ k → at l k ≡ f k) → at l k ≡ f k
+      go v (yes e) more = ap (at l) e ∙ r.2.1 0 ∙ v ∙ ap f (sym e)
+      go v (no e) more = more (omega arith)
+
+  pub listed_from_fn : (n : ℕ) → IsFromFnResult g closure l n → l ≡ listed n f
+  listed_from_fn n r = is_listed n f l r.long (λ i h. given_from 0 n r.each i (omega arith) (omega arith))
+
 pub front_none : (f : ℕ → ℕ) (l : List ℕ) → Front f 0 l
 front_none f l = record { fits = omega arith; front = λ i h. absurd (omega arith) }
 
@@ -53,43 +71,3 @@ front_to {f} {n} {l} r m e = subst (λ (x : ℕ). Front f x l) e r
 
 pub front_all : {f : ℕ → ℕ} {n : ℕ} {l : List ℕ} → Front f n l → length l ≡ n → l ≡ listed n f
 front_all {f} {n} {l} r e = is_listed n f l e r.front
-
-pub filled_none : (l : List ℕ) (f : ℕ → ℕ) → Filled l f 0 l
-filled_none l f = record { size = refl; front = front_none f l; rest = λ i h. refl }
-
-pub filled_more : {l : List ℕ} {f : ℕ → ℕ} {n : ℕ} {m : List ℕ} → Filled l f n m → (v : ℕ) → n < length m → v ≡ f n
-    → Filled l f (n + 1) (set m n v)
-filled_more {l} {f} {n} {m} r v h e =
-    record {
-      size = length-set m n v ∙ r.size;
-      front = front_more r.front v h e;
-      rest = λ i k. get_or-set_other m n i v 0 (λ w. omega arith) ∙ r.rest i (omega arith);
-    }
-
-pub filled_to : {l : List ℕ} {f : ℕ → ℕ} {n : ℕ} {m : List ℕ} → Filled l f n m → (k : ℕ) → n ≡ k → Filled l f k m
-filled_to {l} {f} {n} {m} r k e = subst (λ (x : ℕ). Filled l f x m) e r
-
--- the values and then what was there
-pub filled_whole : {l : List ℕ} {f : ℕ → ℕ} {n : ℕ} {m : List ℕ} → Filled l f n m → m ≡ buffer_with (listed n f) l
-unfolding buffer_with
-filled_whole {l} {f} {n} {m} r =
-    let z = length-listed n f in
-    let k : n ≤ length l = omega (arith, r.size, r.front.fits) in
-    rw (le-leb (length (listed n f)) (length l) (omega (arith, z)))
-    (ext_get_or 0 m (listed n f ++ drop (length (listed n f)) l) (sized k) (λ i h. go i h (dec_lt i n)))
-  where
-    sized : n ≤ length l → length m ≡ length (listed n f ++ drop (length (listed n f)) l)
-    sized k = simp (length-append, length-drop, length-listed) (omega (arith, r.size))
-
-    go : (i : ℕ) → i < length m → Dec (i < n) → at m i ≡ at (listed n f ++ drop (length (listed n f)) l) i
-    go i h (yes k) =
-        r.front.front i k ∙ sym (at_listed n f i k)
-        ∙ sym (get_or-append (listed n f) (drop (length (listed n f)) l) 0 i (omega (arith, length-listed n f)))
-    go i h (no k) =
-        let e : length (listed n f) + (i - length (listed n f)) ≡ i = omega (arith, length-listed n f) in
-        r.rest i (omega arith)
-        ∙ sym
-        (ap (at (listed n f ++ drop (length (listed n f)) l)) (sym e)
-        ∙ get_or-append-add (listed n f) (drop (length (listed n f)) l) (i - length (listed n f)) 0
-        ∙ get_or-drop (length (listed n f)) l (i - length (listed n f)) 0
-        ∙ ap (at l) e)

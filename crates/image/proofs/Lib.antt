@@ -1,7 +1,6 @@
 pub mod Fronts
 pub mod Values
 pub mod Sealing
-pub mod Entries
 pub mod Readings
 pub mod Accepted
 pub mod NameFields

@@ -1,23 +1,19 @@
--- What is put at a byte, by its place: of a state that there is, its word's byte; else 0. Assumes nothing.
-use Prim.Native.Nat.{ℕ, ◌<◌, ◌≤◌}
-use mathlib.Core.Path.{◌≡◌, sym, ap, ◌∙◌}
-use mathlib.Core.List.{List}
-use borrow.Author.Tests.{lt-ltb, le-ltb}
-use Rattle.places.specs.declared.Place.{Place}
+-- Half of a used word. Assumes nothing.
+use Prim.Native.Nat.{ℕ, ◌/◌, ◌%◌}
+use mathlib.Core.Path.{◌≡◌, refl}
+use mathlib.Core.Bool.{Bool, true, false, cond}
+use lib.Dec.{ltb}
 use Rattle.image.specs.declared.machine.Header.{Header}
-use Rattle.places.specs.Layout.{stands_at}
-use Rattle.image.specs.Image.{used, value_as, value_at}
+use Rattle.image.specs.Image.{used}
 
-module _ (h : Header) (s n v w : ℕ) (states : n ≡ h.states) where
-  pub used_in : s < n → v ≡ w → v ≡ used h s w
-  unfolding used
-  used_in l e = rw (← states, lt-ltb _ _ l) e
+either : (f : ℕ → ℕ) → f 0 ≡ 0 → (t : Bool) (w : ℕ) → f (cond t w 0) ≡ cond t (f w) 0
+either f z true w = refl
+either f z false w = z
 
-  pub used_out : n ≤ s → 0 ≡ used h s w
-  unfolding used
-  used_out l = rw (← states, le-ltb _ _ l)
+pub used_high : (h : Header) (s w : ℕ) → used h s w / 256 ≡ used h s (w / 256)
+unfolding used
+used_high h s w = either (λ x. x / 256) refl (ltb s h.states) w
 
-pub value_as_lem : (h : Header) (rows : List ℕ) (i : ℕ) (place other : Place) (v : ℕ) → place ≡ stands_at 1 i → place ≡ other
-    → v ≡ value_as h rows i other → v ≡ value_at h rows i
-unfolding value_at
-value_as_lem h rows i place other v e t b = b ∙ ap (value_as h rows i) (sym t ∙ e)
+pub used_low : (h : Header) (s w : ℕ) → used h s w % 256 ≡ used h s (w % 256)
+unfolding used
+used_low h s w = either (λ x. x % 256) refl (ltb s h.states) w

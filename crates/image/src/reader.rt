@@ -3,14 +3,15 @@ ghost use Rattle.std.specs.Prelude.{ℕ, ◌+◌, ◌*◌, ◌/◌, ◌%◌, ◌
 ghost use Rattle.ground.specs.Bytes.{at};
 ghost use Rattle.operations.specs.Alphabet.{stride};
 ghost use Rattle.image.specs.Image.{listed, header_of, entry_word, row_word, ReadsAs, ReadsTo};
-ghost use Rattle.image.specs.inner.Filling.{Filled};
 
 use crate::machine::{Header, Reading};
 use answers::Refusal;
 use layout::verdict;
 use operations::alphabet::{ACCESSES, STRIDE};
+use std::array;
 
 // The word of a state and a letter.
+#[tactic(auto, unfolding(crate::specs::Image::entry_word))]
 fn entry_word(image: &[u8], state: u8, letter: usize) -> u16
     requires { letter < stride }
     ensures { result ≡ entry_word image.now state letter }
@@ -19,13 +20,13 @@ fn entry_word(image: &[u8], state: u8, letter: usize) -> u16
     if letter < ACCESSES {
         let fence = ground::number_at(image, entry + 2 * letter);
         let next = ground::number_at(image, entry + (2 * letter + 1));
-        return (256 * fence + next) as u16;
-    }
-    if letter - ACCESSES < ground::number_at(image, 5) {
+        (256 * fence + next) as u16
+    } else if letter - ACCESSES < ground::number_at(image, 5) {
         let next = ground::number_at(image, entry + (ACCESSES + letter));
-        return (256 * 255 + next) as u16;
+        (256 * 255 + next) as u16
+    } else {
+        0
     }
-    0
 }
 
 // Sixteen bytes of an image.
@@ -33,13 +34,7 @@ fn name_at(image: &[u8], from: usize) -> [u8; 16]
     requires { from < 64 }
     ensures { result ≡ listed 16 (λ (k : ℕ). at image.now (from + k)) }
 {
-    let mut name = [0u8; 16];
-    let mut k = 0;
-    while k < 16 {
-        name[k] = ground::byte_at(image, from + k);
-        k += 1;
-    }
-    name
+    array::from_fn(|k| ground::byte_at(image, from + k))
 }
 
 fn header(image: &[u8]) -> Header
@@ -55,14 +50,12 @@ fn header(image: &[u8]) -> Header
     }
 }
 
-fn fill_rows(image: &[u8], rows: &mut [u16], count: usize)
-    requires { (count ≤ 255 * stride) × (count ≤ length rows.old) }
-    ensures { Filled rows.old (row_word image.now) count rows.new }
+fn fill_rows(image: &[u8], rows: &mut [u16])
+    requires { length rows.old ≤ 255 * stride }
+    ensures { rows.new ≡ listed (length rows.old) (row_word image.now) }
 {
-    let mut j = 0;
-    while j < count {
-        rows[j] = entry_word(image, (j / STRIDE) as u8, j % STRIDE);
-        j += 1;
+    for (j, row) in rows.iter_mut().enumerate() {
+        *row = entry_word(image, (j / STRIDE) as u8, j % STRIDE);
     }
 }
 
@@ -74,7 +67,7 @@ fn read_accepted(image: &[u8], rows: &mut [u16]) -> Reading
     if rows.len() < count {
         return Err(Refusal::BufferTooSmall);
     }
-    fill_rows(image, rows, count);
+    fill_rows(image, &mut rows[..count]);
     Ok(header(image))
 }
 

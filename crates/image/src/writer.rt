@@ -15,11 +15,11 @@ fn word_at(rows: &[u16], state: usize, letter: usize) -> u16
     requires { (state < 2 ^ 32) × (letter < 2 ^ 32) }
     ensures { result ≡ word rows.now state letter }
 {
-    let i = state * STRIDE + letter;
-    if i < rows.len() { rows[i] } else { 0 }
+    rows.get(state * STRIDE + letter).copied().unwrap_or(0)
 }
 
 // A number's high byte at an even index, its low byte at an odd one.
+#[tactic(auto, unfolding(crate::specs::Image::half))]
 fn half(i: usize, number: usize) -> u8
     requires { number < 65536 }
     ensures { result ≡ half i number }
@@ -31,33 +31,26 @@ fn half(i: usize, number: usize) -> u8
     }
 }
 
-fn fence_of(h: Header, rows: &[u16], state: usize, letter: usize) -> u8
+// The word of a state and a letter; 0 of an unused state.
+#[tactic(auto, unfolding(crate::specs::Image::used))]
+fn used_word(h: Header, rows: &[u16], state: usize, letter: usize) -> usize
     requires { (state < 2 ^ 32) × (letter < 2 ^ 32) }
-    ensures { result ≡ used h state (word rows.now state letter / 256) }
+    ensures { (result ≡ used h state (word rows.now state letter)) × (result < 65536) }
 {
-    if state < ground::wide(h.states) {
-        return (word_at(rows, state, letter) / 256) as u8;
+    if state < usize::from(h.states) {
+        usize::from(word_at(rows, state, letter))
+    } else {
+        0
     }
-    0
-}
-
-fn next_of(h: Header, rows: &[u16], state: usize, letter: usize) -> u8
-    requires { (state < 2 ^ 32) × (letter < 2 ^ 32) }
-    ensures { result ≡ used h state (word rows.now state letter % 256) }
-{
-    if state < ground::wide(h.states) {
-        return (word_at(rows, state, letter) % 256) as u8;
-    }
-    0
 }
 
 // What is written at byte i, the checks aside.
+#[tactic(auto, using(crate::proofs::Values::used_high, crate::proofs::Values::used_low), unfolding(crate::specs::Image::value_at))]
 fn value_at(h: Header, rows: &[u16], i: usize) -> u8
     requires { i < 2 ^ 24 }
     ensures { result ≡ value_at h rows.now i }
 {
-    let place = places::stands_at(i);
-    match place {
+    match places::stands_at(i) {
         Place::Number => half(i, i / 512),
         Place::Form => 1,
         Place::Way => h.way,
@@ -66,24 +59,22 @@ fn value_at(h: Header, rows: &[u16], i: usize) -> u8
         Place::TargetFences => h.targets,
         Place::UpstreamName(k) => h.upstream[k],
         Place::TargetName(k) => h.target[k],
-        Place::Fence(state, a) => fence_of(h, rows, state, a),
-        Place::Next(state, a) => next_of(h, rows, state, a),
-        Place::FenceNext(state, f) => next_of(h, rows, state, ACCESSES + f),
-        Place::Nothing => 0,
-        Place::Check => 0,
+        Place::Fence(state, a) => (used_word(h, rows, state, a) / 256) as u8,
+        Place::Next(state, a) => (used_word(h, rows, state, a) % 256) as u8,
+        Place::FenceNext(state, f) => (used_word(h, rows, state, ACCESSES + f) % 256) as u8,
+        Place::Nothing | Place::Check => 0,
     }
 }
 
 // Fills block b but for its check. The blocks below it are full.
+#[tactic(auto, using(crate::proofs::Sealing::contents_next))]
 fn fill_contents(h: Header, rows: &[u16], image: &mut [u8], b: usize)
     requires b_bound { (b < 14) × (length image.old ≡ limit) }
     requires front { Front (byte_at h rows.now) (512 * b) image.old }
     ensures { Front (byte_at h rows.now) (512 * b + 510) image.new }
 {
-    let mut p = 0;
-    while p < 510 {
+    for p in 0..510 {
         image[512 * b + p] = value_at(h, rows, 512 * b + p);
-        p += 1;
     }
 }
 
@@ -112,10 +103,8 @@ fn fill(h: Header, rows: &[u16], image: &mut [u8])
     ensures { Front (byte_at h rows.now) (size_of h) image.new }
 {
     let count = places::blocks_for(h.states);
-    let mut b = 0;
-    while b < count {
+    for b in 0..count {
         fill_block(h, rows, image, b);
-        b += 1;
     }
 }
 

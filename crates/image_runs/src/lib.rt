@@ -39,13 +39,11 @@ fn access_step(fence: usize, next: usize) -> Step
     requires { next < 256 }
     ensures { (result ≡ access_step fence next) × Small result }
 {
-    if fence == 254 {
-        return Err(Stop::NoFenceWillDo);
+    match fence {
+        254 => Err(Stop::NoFenceWillDo),
+        255 => Ok(Move::Plain(next)),
+        _ => Ok(Move::Fenced(operations::byte_of(Operation::Fence(fence)), next)),
     }
-    if fence == 255 {
-        return Ok(Move::Plain(next));
-    }
-    Ok(Move::Fenced(operations::byte_of(Operation::Fence(fence)), next))
 }
 
 fn take_access(image: &[u8], state: usize, kind: Kind) -> Step

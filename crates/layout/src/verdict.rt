@@ -15,10 +15,7 @@ fn block_count(image: &[u8]) -> usize
     requires { length image.now ≤ limit }
     ensures { result ≡ block_count image.now }
 {
-    if image.len() == 0 {
-        return 1;
-    }
-    (image.len() + 511) / 512
+    image.len().div_ceil(512).max(1)
 }
 
 // The first byte from here on that is not zero, or the end.

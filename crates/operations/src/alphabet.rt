@@ -18,16 +18,12 @@ pub const WORDS: usize = 255 * STRIDE;
 pub fn kind_of(letter: usize) -> Kind
     ensures { result ≡ kind_of letter }
 {
-    if letter == 0 {
-        return Kind::Ld;
+    match letter {
+        0 => Kind::Ld,
+        1 => Kind::Cld,
+        2 => Kind::St,
+        _ => Kind::Cst,
     }
-    if letter == 1 {
-        return Kind::Cld;
-    }
-    if letter == 2 {
-        return Kind::St;
-    }
-    Kind::Cst
 }
 
 pub fn letter_of(kind: Kind) -> usize
@@ -62,11 +58,9 @@ pub fn letter_byte(letter: usize) -> u8
 pub fn fence_mark(fence: u16) -> u8
     ensures { result ≡ fence_mark fence }
 {
-    if fence == 254 {
-        return b'!';
+    match fence {
+        254 => b'!',
+        255 => b'-',
+        _ => crate::byte_of(Operation::Fence(usize::from(fence))),
     }
-    if fence == 255 {
-        return b'-';
-    }
-    crate::byte_of(Operation::Fence(fence as usize))
 }

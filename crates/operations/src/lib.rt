@@ -61,11 +61,9 @@ fn access_byte(kind: Kind) -> u8
 fn fence_byte(number: usize) -> u8
     ensures { result ≡ fence_byte number }
 {
-    if number < 10 {
-        return b'0' + number as u8;
+    match number {
+        0..=9 => b'0' + number as u8,
+        10..=15 => b'A' + (number - 10) as u8,
+        _ => 0,
     }
-    if number < 16 {
-        return b'A' + (number - 10) as u8;
-    }
-    0
 }

@@ -54,8 +54,8 @@ stands i =
     by_test (Stands i) (ltb (i % 512) 510) _ _ (λ h. (ltb-false (i % 512) 2 h2, ltb-true (i % 512) 510 h)) (λ h. ltb-false (i % 512) 510 h)
 
 -- what a place says of its byte
-pub stands_at_lem : (i : ℕ) (place other : Place) → place ≡ stands_at 1 i → place ≡ other → Stands i other
-stands_at_lem i place other e h = subst (Stands i) (sym e ∙ h) (stands i)
+pub stands_as : (i : ℕ) (place : Place) → place ≡ stands_at 1 i → Stands i place
+stands_as i place e = subst (Stands i) (sym e) (stands i)
 
 -- what stands at a byte of an entry, and that it is within the image
 pub entry_at : (s o : ℕ) → o < 24 → stands_at 1 (position 1 s o) ≡ entry_place 1 s o

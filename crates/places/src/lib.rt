@@ -29,37 +29,24 @@ const STATES_TO_A_BLOCK: usize = 21;
 fn header_place(p: usize) -> Place
     ensures { result ≡ header_place p }
 {
-    if p < 3 {
-        return Place::Form;
+    match p {
+        0..=2 => Place::Form,
+        3 => Place::Way,
+        4 => Place::States,
+        5 => Place::UpstreamFences,
+        6 => Place::TargetFences,
+        7..=22 => Place::UpstreamName(p - 7),
+        23..=38 => Place::TargetName(p - 23),
+        _ => Place::Nothing,
     }
-    if p < 4 {
-        return Place::Way;
-    }
-    if p < 5 {
-        return Place::States;
-    }
-    if p < 6 {
-        return Place::UpstreamFences;
-    }
-    if p < 7 {
-        return Place::TargetFences;
-    }
-    if p < 23 {
-        return Place::UpstreamName(p - 7);
-    }
-    if p < 39 {
-        return Place::TargetName(p - 23);
-    }
-    Place::Nothing
 }
 
 fn entry_place(state: usize, o: usize) -> Place
     ensures { result ≡ entry_place 1 state o }
 {
     if 8 <= o {
-        return Place::FenceNext(state, o - 8);
-    }
-    if o % 2 == 0 {
+        Place::FenceNext(state, o - 8)
+    } else if o % 2 == 0 {
         Place::Fence(state, o / 2)
     } else {
         Place::Next(state, o / 2)
@@ -71,28 +58,25 @@ fn content_place(b: usize, p: usize) -> Place
     ensures { result ≡ content_place 1 b p }
 {
     if b == 0 {
-        return header_place(p);
+        header_place(p)
+    } else {
+        entry_place(
+            (b - 1) * STATES_TO_A_BLOCK + (p - 2) / ENTRY,
+            (p - 2) % ENTRY,
+        )
     }
-    entry_place(
-        (b - 1) * STATES_TO_A_BLOCK + (p - 2) / ENTRY,
-        (p - 2) % ENTRY,
-    )
 }
 
+#[tactic(auto, unfolding(crate::specs::Layout::stands_at))]
 pub fn stands_at(i: usize) -> Place
     ensures { result ≡ stands_at 1 i }
 {
-    let p = i % 512;
-    if p < 2 {
-        return Place::Number;
+    match i % 512 {
+        0..=1 => Place::Number,
+        p @ 2..=505 => content_place(i / 512, p),
+        506..=509 => Place::Nothing,
+        _ => Place::Check,
     }
-    if p < 506 {
-        return content_place(i / 512, p);
-    }
-    if p < 510 {
-        return Place::Nothing;
-    }
-    Place::Check
 }
 
 // Where a state's entry begins. A state is a byte, so that it begins within the longest image.

@@ -54,12 +54,9 @@ pub fn way_number(way: Way) -> u64
 pub fn fence_table(fences: &[u64], number: usize) -> Table
     ensures { result ≡ table_at fences.now number }
 {
-    if number < fences.len() {
-        Table {
-            packed: fences[number],
-        }
-    } else {
-        Table::NONE
+    match fences.get(number) {
+        Some(&packed) => Table { packed },
+        None => Table::NONE,
     }
 }
 
@@ -105,10 +102,7 @@ fn last_fence(fences: &[u64], pending: Table) -> Choice
     ensures { result ≡ last (serves fences.now pending) (length fences.now) }
 {
     let n = fences.len();
-    if n == 0 {
-        return Choice::Refused;
-    }
-    if fence_table(fences, n - 1).at_least(pending) {
+    if 0 < n && fence_table(fences, n - 1).at_least(pending) {
         Choice::Fence(n - 1)
     } else {
         Choice::Refused
@@ -119,9 +113,7 @@ fn last_fence(fences: &[u64], pending: Table) -> Choice
 pub fn take(shim: Shim, fences: &[u64], situation: Situation, kind: Kind) -> Step
     ensures { result ≡ stepped shim.way shim.upstream (target_of shim fences.now) situation kind }
 {
-    let way = shim.way;
-    let choice = choose(way, fences, situation.pending(kind));
-    match choice {
+    match choose(shim.way, fences, situation.pending(kind)) {
         Choice::Nothing => Step::Plain(situation.joins(shim.upstream, shim.target, kind)),
         Choice::Fence(g) => {
             let offered = situation.offers(fence_table(fences, g));

@@ -1,16 +1,15 @@
-use native.Mathlib.Omega.{arith}
-use Rattle.barred.proofs.Names.{ended_here, ended_on, ended_none}
+-- `has_ended` meets its contract: any of the first k bytes is a zero. Assumes nothing.
+use mathlib.Core.Path.{refl, ◌∙◌}
+use Rattle.std.proofs.Common.{rules, tests, arith, ◌+◌, ℕ, eqb}
+use Rattle.std.proofs.lemmas.Iterator.{YieldsList-from_range}
+use Rattle.std.proofs.lemmas.Iterator.Search.{any_from_yields_List}
+use Rattle.ground.specs.Bytes.{at}
+use Rattle.barred.proofs.Names.{ended_any}
 use Rattle.barred.proofs.has_ended.Goals as goal
 
-pub returns-then-byte_at-eq0 : goal.returns-then-byte_at-eq0
-returns-then-byte_at-eq0 c =
-    ended_here _ _ _ _ _ c.loop-j.invariant.1 c.loop-j-test.true c.byte_at.ensures c.if-byte_at-eq0.true
-
-pub loop-j-preserved : goal.loop-j-preserved
-loop-j-preserved c = (
-  omega arith,
-  ended_on _ _ _ _ _ c.loop-j.invariant.1 c.loop-j-test.true c.byte_at.ensures c.if-byte_at-eq0.false,
-)
-
 pub returns : goal.returns
-returns c = ended_none _ _ _ _ c.loop-j.invariant.1 c.loop-j-test.false
+returns c =
+    let a = c.args in
+    any_from_yields_List (λ (j : ℕ). eqb (at a.image.now (a.from + j)) 0) _ _ _ c.any.ensures.ran (YieldsList-from_range 0 a.k a.k refl (omega arith))
+    (λ x b q k. search (rules, tests))
+    ∙ ended_any a.image.now a.from a.k

@@ -8,12 +8,6 @@ pub record Front (f : ℕ → ℕ) (n : ℕ) (l : List ℕ) : Type 0 where
   pub fits : n ≤ length l
   pub front : (i : ℕ) → i < n → at l i ≡ f i
 
--- the first n values of a list are those of f, and the rest is as it was
-pub record Filled (l : List ℕ) (f : ℕ → ℕ) (n : ℕ) (l' : List ℕ) : Type 0 where
-  pub size : length l' ≡ length l
-  pub front : Front f n l'
-  pub rest : (i : ℕ) → n ≤ i → at l' i ≡ at l i
-
 -- a block with its check put to its end
 unfoldable pub sealed : List ℕ → ℕ → List ℕ
 sealed image b = set (set image (512 * b + 510) (check_of image b / 256)) (512 * b + 511) (check_of image b % 256)

@@ -11,5 +11,4 @@ returns-then-rows-count c =
 pub returns : goal.returns
 returns c =
     let a = c.args in
-    read_whole a.image.now a.rows.now _ c.number_at-count.ensures.0 _ _ c.if-rows-count.false c.header.ensures
-    c.fill_rows.ensures
+    read_whole a.image.now a.rows.now _ c.number_at-count.ensures.0 _ _ c.if-rows-count.false c.header.ensures c.fill_rows.ensures
