@@ -58,10 +58,8 @@ fn put_nodes(buffer: &mut [u8], at: usize, states: usize) -> usize
     ensures { Put buffer.old buffer.new at result (in_turn node_line states) }
 {
     let mut here = at;
-    let mut state = 0;
-    while state < states {
+    for state in 0..states {
         here = put_node(buffer, here, state);
-        state += 1;
     }
     here
 }
@@ -99,10 +97,8 @@ fn put_state(buffer: &mut [u8], at: usize, rows: &[u16], letters: usize, state: 
     ensures { Put buffer.old buffer.new at result (state_edges letters rows.now state) }
 {
     let mut here = at;
-    let mut letter = 0;
-    while letter < letters {
+    for letter in 0..letters {
         here = put_edge(buffer, here, state, letter, rows[state * STRIDE + letter]);
-        letter += 1;
     }
     here
 }
@@ -113,10 +109,8 @@ fn put_edges(buffer: &mut [u8], at: usize, rows: &[u16], letters: usize, states:
     ensures { Put buffer.old buffer.new at result (in_turn (state_edges letters rows.now) states) }
 {
     let mut here = at;
-    let mut state = 0;
-    while state < states {
+    for state in 0..states {
         here = put_state(buffer, here, rows, letters, state);
-        state += 1;
     }
     here
 }

@@ -57,10 +57,8 @@ fn put_state(buffer: &mut [u8], at: usize, rows: &[u16], state: usize, letters: 
     ensures { Put buffer.old buffer.new at result (state_lines state (answer_at rows.now state) letters) }
 {
     let mut here = at;
-    let mut letter = 0;
-    while letter < letters {
+    for letter in 0..letters {
         here = put_step(buffer, here, state, letter, rows[state * STRIDE + letter]);
-        letter += 1;
     }
     here
 }
@@ -71,10 +69,8 @@ fn put_rows(buffer: &mut [u8], at: usize, rows: &[u16], states: usize, letters: 
     ensures { Put buffer.old buffer.new at result (row_lines (answer_at rows.now) letters states) }
 {
     let mut here = at;
-    let mut state = 0;
-    while state < states {
+    for state in 0..states {
         here = put_state(buffer, here, rows, state, letters);
-        state += 1;
     }
     here
 }
