@@ -1,7 +1,7 @@
 // The direct run: two model texts, a way, a stream and a buffer.
 #![tactic(auto)]
 
-ghost use Rattle.std.specs.Prelude.{◌+◌, ◌≤◌, ◌<◌, ◌≡◌, length};
+ghost use Rattle.std.specs.Prelude.{◌+◌, ◌≤◌, ◌<◌, ◌≡◌, ◌==◌, length};
 ghost use Rattle.answers.specs.Given.{Delivers};
 ghost use Rattle.operations.specs.Operation.{byte_is, is_fence, fence_bytes};
 ghost use Rattle.rule.specs.Sides.{target_of};
@@ -47,29 +47,17 @@ enum Ended {
 }
 
 // How many of these bytes are fences.
+#[tactic(auto, using(crate::proofs::Counting::fences_counted))]
 fn fences_in(bytes: &[u8]) -> usize
     ensures { result ≡ fence_bytes bytes.now }
 {
-    let mut n = 0;
-    let mut i = 0;
-    while i < bytes.len() {
-        n = n + one_if_fence(bytes[i]);
-        i += 1;
-    }
-    n
+    bytes.iter().filter(|byte| is_fence(**byte)).count()
 }
 
-fn one_if_fence(byte: u8) -> usize
-    ensures { (result ≡ is_fence (byte_is byte)) × (result ≤ 1) }
+fn is_fence(byte: u8) -> bool
+    ensures { result ≡ (is_fence (byte_is byte) == 1) }
 {
-    let read = operations::read_byte(byte);
-    match read {
-        Byte::Nothing => 0,
-        Byte::Is(operation) => match operation {
-            Operation::Access(_) => 0,
-            Operation::Fence(_) => 1,
-        },
-    }
+    matches!(operations::read_byte(byte), Byte::Is(Operation::Fence(_)))
 }
 
 // What an access does, at its index.
