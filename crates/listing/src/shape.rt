@@ -71,24 +71,18 @@ fn way_in(line: &[u8]) -> WayRead
     ensures { result ≡ way_in line.now }
 {
     if ground::same(line, b"way full\n") {
-        return WayRead::Is(Way::Full);
+        WayRead::Is(Way::Full)
+    } else if ground::same(line, b"way sparing\n") {
+        WayRead::Is(Way::Sparing)
+    } else {
+        WayRead::Nothing
     }
-    if ground::same(line, b"way sparing\n") {
-        return WayRead::Is(Way::Sparing);
-    }
-    WayRead::Nothing
 }
 
 fn is_run(line: &[u8]) -> bool
     ensures { result ≡ is_run line.now }
 {
-    if line.len() < 5 {
-        return false;
-    }
-    if ground::same(&line[..4], b"run ") {
-        return line[line.len() - 1] == b'\n';
-    }
-    false
+    5 <= line.len() && line.starts_with(b"run ") && line.ends_with(b"\n")
 }
 
 // Whether the run's line is all that is left.
@@ -98,12 +92,7 @@ fn only_run(rest: &[u8]) -> bool
     let line = line_end(rest);
     match line {
         Found::Nowhere => false,
-        Found::At(n) => {
-            if n == rest.len() {
-                return is_run(rest);
-            }
-            false
-        }
+        Found::At(n) => { n == rest.len() && is_run(rest) }
     }
 }
 
