@@ -47,11 +47,7 @@ pub fn way_of(number: u64) -> WayRead
 pub fn fences_of(tables: &[u64], count: usize) -> &[u64]
     ensures { result.now ≡ take count tables.now }
 {
-    if count <= tables.len() {
-        &tables[..count]
-    } else {
-        tables
-    }
+    &tables[..count.min(tables.len())]
 }
 
 // The way and the two defaults.
