@@ -147,19 +147,15 @@ fn run_stream<'a>(
 {
     let mut situation = Situation::FRESH;
     let mut written = 0;
-    let mut at = 0;
-    while at < stream.len() {
-        let byte = stream[at];
+    for (at, &byte) in stream.iter().enumerate() {
         let step = advance(shim, fences, targets, situation, at, byte);
-        let turn = lay(step, byte, written, buffer);
-        match turn {
+        match lay(step, byte, written, buffer) {
             Turn::Stop(why) => return Ended::Refused(why),
             Turn::On(next) => {
                 situation = next.situation;
                 written = next.written;
             }
         }
-        at += 1;
     }
     Ended::Done(written)
 }

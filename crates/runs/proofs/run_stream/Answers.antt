@@ -10,14 +10,14 @@ pub returns-in-Stop : goal.returns-in-Stop
 returns-in-Stop c =
     let a = c.args in
     stops a.shim a.fences.now a.targets.now a.stream.now c.loop-at.invariant c.advance-step.result _ _
-    c.loop-at-test.true c.advance-step.ensures (sym c.lay-turn.ensures.answer ∙ c.in-Stop.is)
+    c.loop-at-test.true c.advance-step.ensures (sym c.lay.ensures.answer ∙ c.in-Stop.is)
 
 pub loop-at-preserved : goal.loop-at-preserved
 loop-at-preserved c =
     let a = c.args in
     goes_on a.shim a.fences.now a.targets.now a.stream.now c.loop-at.invariant c.advance-step.result _ _
-    c.loop-at-test.true c.requires.0 c.advance-step.ensures (sym c.lay-turn.ensures.answer ∙ c.in-On.is)
-    c.lay-turn.ensures.buffer
+    c.loop-at-test.true c.requires.0 c.advance-step.ensures (sym c.lay.ensures.answer ∙ c.in-On.is)
+    c.lay.ensures.buffer
 
 pub returns : goal.returns
 returns c = search (ends, rules)
