@@ -1,19 +1,11 @@
 // The shape of an input: two model texts, the way's line, the run's line.
 ghost use Rattle.std.specs.Prelude.{◌≡◌};
 ghost use Rattle.listing.specs.Shape.{way_in, is_run};
-ghost use Rattle.listing.specs.inner.Finding.{LineEnd, Looks, TextEnd, OnlyRun, EndingAt};
+ghost use Rattle.listing.specs.inner.Finding.{LineEnd, TextEnd, OnlyRun, EndingAt};
 
 use ground::Found;
 use rule::way::Way;
 use shims::WayRead;
-
-// What the first line says of a text: it ends there, it goes on after it, or it never ends.
-#[derive(Drop)]
-enum Looked {
-    End(usize),
-    More(usize),
-    Nothing,
-}
 
 // What stands after the two texts: a way and a stream, which ends before the last byte.
 #[derive(Drop)]
@@ -34,34 +26,16 @@ fn line_end(text: &[u8]) -> Found
     }
 }
 
-// The first line: whether the text ends with it.
-fn look(text: &[u8]) -> Looked
-    ensures { Looks text.now result }
-{
-    let line = line_end(text);
-    match line {
-        Found::Nowhere => Looked::Nothing,
-        Found::At(n) => {
-            if ground::same(&text[..n], b"end\n") {
-                Looked::End(n)
-            } else {
-                Looked::More(n)
-            }
-        }
-    }
-}
-
-// The end of the text that begins here.
+// The end of the text that begins here, which is that of its first line `end`.
 pub(crate) fn text_end(text: &[u8]) -> Found
     ensures { TextEnd text.now result }
 {
     let mut at = 0;
-    while at < text.len() {
-        let looked = look(&text[at..]);
-        match looked {
-            Looked::Nothing => return Found::Nowhere,
-            Looked::End(n) => return Found::At(at + n),
-            Looked::More(n) => at += n,
+    while let Found::At(n) = line_end(&text[at..]) {
+        let line = &text[at..at + n];
+        at += n;
+        if ground::same(line, b"end\n") {
+            return Found::At(at);
         }
     }
     Found::Nowhere

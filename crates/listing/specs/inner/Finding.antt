@@ -3,7 +3,6 @@ use Rattle.std.specs.Prelude.{ℕ, ◌-◌, ◌<◌, ◌≤◌, ◌≡◌, List,
 use Rattle.std.proofs.Math.Option.{none, some as one}
 use Rattle.ground.specs.declared.Found.{Found}
 use Rattle.rule.specs.declared.way.Way.{Way}
-use Rattle.listing.specs.declared.shape.Looked.{Looked}
 use Rattle.listing.specs.declared.shape.Tail.{Tail}
 use Rattle.listing.specs.Shape.{lines, joined, through, is_run, ending_of}
 
@@ -33,11 +32,6 @@ pub record GoesOn (t : List ℕ) (n : ℕ) : Type 0 where
   pub some : 0 < n
   pub inside : n ≤ length t
   pub more : through (lines t) ≡ joined (take n t) (through (lines (drop n t)))
-
-abbrev pub Looks : List ℕ → Looked → Type 0
-Looks t (Looked.End n) = TextOf t n
-Looks t (Looked.More n) = GoesOn t n
-Looks t Looked.Nothing = through (lines t) ≡ none
 
 abbrev pub TextEnd : List ℕ → Found → Type 0
 TextEnd t (Found.At n) = TextOf t n
