@@ -21,12 +21,5 @@ nearest_own : (sh : Shape) → Shaped sh → nearest sh ≡ sh
 nearest_own sh h = same (omega (arith, h.some, h.states)) (omega (arith, h.letters)) (omega (arith, h.targets))
 
 module _ (sh : Shape) (state letter : ℕ) {t : List ℕ} {at : ℕ} {x : Taken ℕ} where
-  -- the edge of a shape that was made the nearest, field by field
-  pub nearest_made : {states letters targets : ℕ} → states ≡ min (max 1 sh.states) 255 → letters ≡ min sh.letters stride
-      → targets ≡ min sh.targets 16
-      → Finds (EdgePart (shape states letters targets) state letter) t at x
-      → Finds (EdgePart (nearest sh) state letter) t at x
-  nearest_made p q r = subst (λ (s : Shape). Finds (EdgePart s state letter) t at x) (same p q r)
-
   pub edge_own : Shaped sh → Finds (EdgePart (nearest sh) state letter) t at x → Finds (EdgePart sh state letter) t at x
   edge_own h = subst (λ (s : Shape). Finds (EdgePart s state letter) t at x) (nearest_own sh h)

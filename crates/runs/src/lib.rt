@@ -64,8 +64,7 @@ fn is_fence(byte: u8) -> bool
 fn access(shim: Shim, targets: &[u64], situation: Situation, at: usize, kind: Kind) -> Move
     ensures { result ≡ moved_by at (stepped shim.way shim.upstream (target_of shim targets.now) situation kind) }
 {
-    let step = rule::way::take(shim, targets, situation, kind);
-    match step {
+    match rule::way::take(shim, targets, situation, kind) {
         Step::Plain(next) => Move::Plain(next),
         Step::Fenced(g, next) => Move::Fenced(g, next),
         Step::Refused => Move::Refused(Refusal::NoFenceWillDo(at)),
@@ -94,8 +93,7 @@ fn advance<'a>(
 ) -> Move
     ensures { result ≡ for_shim moved shim fences.now targets.now situation at byte }
 {
-    let read = operations::read_byte(byte);
-    match read {
+    match operations::read_byte(byte) {
         Byte::Nothing => Move::Refused(Refusal::NoOperation(at)),
         Byte::Is(operation) => match operation {
             Operation::Access(kind) => access(shim, targets, situation, at, kind),
@@ -199,12 +197,8 @@ pub fn run_models(models: Models, stream: &[u8], out: &mut [u8]) -> Answer
         return Answer::Refused(Refusal::OverLimit);
     }
     let shim = shims::shim_between(models);
-    let upstream = models.upstream;
-    let ups = upstream.tables;
-    let fences = shims::fences_of(&ups, upstream.fences);
-    let target = models.target;
-    let offers = target.tables;
-    let targets = shims::fences_of(&offers, target.fences);
+    let fences = shims::fences_of(&models.upstream.tables, models.upstream.fences);
+    let targets = shims::fences_of(&models.target.tables, models.target.fences);
     run_within(shim, fences, targets, stream, out)
 }
 
@@ -220,10 +214,8 @@ pub fn run<'a>(
         out.old result out.new }
 {
     let opening = shims::read_both(way, upstream, target);
-    let verdict = opening.verdict;
-    let models = opening.models;
-    match verdict {
+    match opening.verdict {
         Verdict::Refused(why) => Answer::Refused(why),
-        Verdict::Accepted => run_models(models, stream, out),
+        Verdict::Accepted => run_models(opening.models, stream, out),
     }
 }

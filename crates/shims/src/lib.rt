@@ -54,15 +54,10 @@ pub fn fences_of(tables: &[u64], count: usize) -> &[u64]
 pub fn shim_between(models: Models) -> Shim
     ensures { result ≡ shim_between models }
 {
-    let way = models.way;
-    let up = models.upstream;
-    let on = models.target;
-    let upstream = up.ppo;
-    let target = on.ppo;
     Shim {
-        way,
-        upstream,
-        target,
+        way: models.way,
+        upstream: models.upstream.ppo,
+        target: models.target.ppo,
     }
 }
 
@@ -85,16 +80,14 @@ fn read_target(way: Way, upstream: Model, target: &[u8]) -> Opening
     ensures { result ≡ on_target way upstream target.now }
 {
     let read = models::reader::read(target);
-    let verdict = read.verdict;
-    let model = read.model;
-    match verdict {
+    match read.verdict {
         Verdict::Refused(why) => refuse(why),
         Verdict::Accepted => Opening {
             verdict: Verdict::Accepted,
             models: Models {
                 way,
                 upstream,
-                target: model,
+                target: read.model,
             },
         },
     }
@@ -105,11 +98,9 @@ pub fn read_texts<'a>(way: Way, upstream: &'a [u8], target: &'a [u8]) -> Opening
     ensures { result ≡ opened_by (WayRead.Is way) upstream.now target.now }
 {
     let read = models::reader::read(upstream);
-    let verdict = read.verdict;
-    let model = read.model;
-    match verdict {
+    match read.verdict {
         Verdict::Refused(first) => refuse(first),
-        Verdict::Accepted => read_target(way, model, target),
+        Verdict::Accepted => read_target(way, read.model, target),
     }
 }
 
@@ -117,8 +108,7 @@ pub fn read_texts<'a>(way: Way, upstream: &'a [u8], target: &'a [u8]) -> Opening
 pub fn read_both<'a>(way: u64, upstream: &'a [u8], target: &'a [u8]) -> Opening
     ensures { result ≡ opened way upstream.now target.now }
 {
-    let read = way_of(way);
-    match read {
+    match way_of(way) {
         WayRead::Nothing => refuse(Refusal::OutOfRange),
         WayRead::Is(is) => read_texts(is, upstream, target),
     }
