@@ -54,11 +54,9 @@ pub fn compare_tables(first: Table, second: Table) -> Comparison
 fn compare_with(first: Table, second: Reading) -> Compared
     ensures { result ≡ compared_both first second.verdict second.model.ppo }
 {
-    let verdict = second.verdict;
-    let model = second.model;
-    match verdict {
+    match second.verdict {
         Verdict::Refused(why) => Compared::Refused(why),
-        Verdict::Accepted => Compared::Is(compare_tables(first, model.ppo)),
+        Verdict::Accepted => Compared::Is(compare_tables(first, second.model.ppo)),
     }
 }
 
@@ -66,11 +64,9 @@ fn compare_with(first: Table, second: Reading) -> Compared
 pub fn compare(first: &[u8], second: &[u8]) -> Compared
     ensures { result ≡ comparing first.now second.now }
 {
-    let r = models::reader::read(first);
-    let verdict = r.verdict;
-    let model = r.model;
-    match verdict {
+    let read = models::reader::read(first);
+    match read.verdict {
         Verdict::Refused(why) => Compared::Refused(why),
-        Verdict::Accepted => compare_with(model.ppo, models::reader::read(second)),
+        Verdict::Accepted => compare_with(read.model.ppo, models::reader::read(second)),
     }
 }

@@ -77,8 +77,7 @@ fn list_models(models: Models, stream: &[u8], out: &mut [u8]) -> Answer
     ensures { Answers (ModelsListed models stream.now) out.old result out.new }
 {
     let mut output = [0u8; 8192];
-    let answer = runs::run_models(models, stream, &mut output);
-    match answer {
+    match runs::run_models(models, stream, &mut output) {
         Answer::Refused(why) => Answer::Refused(why),
         Answer::Done {
             written,
@@ -105,10 +104,8 @@ pub fn list_parts<'a>(
         out.old result out.new }
 {
     let opening = shims::read_texts(way, upstream, target);
-    let verdict = opening.verdict;
-    let models = opening.models;
-    match verdict {
+    match opening.verdict {
         Verdict::Refused(why) => Answer::Refused(why),
-        Verdict::Accepted => list_models(models, stream, out),
+        Verdict::Accepted => list_models(opening.models, stream, out),
     }
 }

@@ -29,9 +29,10 @@ fn next_of(word: u16) -> u64
     ensures { result ≡ next_state (decoded word) }
 {
     if word / 256 == 254 {
-        return 0;
+        0
+    } else {
+        (word % 256) as u64
     }
-    (word % 256) as u64
 }
 
 // The line of a state and a letter.
@@ -45,10 +46,9 @@ fn put_step(buffer: &mut [u8], at: usize, state: usize, letter: usize, word: u16
         alphabet::fence_mark(word / 256),
         b' ',
     ];
-    let next = next_of(word);
     let middle_at = printing::put_decimal(buffer, at, state as u64);
     let next_at = printing::put(buffer, middle_at, &middle);
-    put_number_line(buffer, next_at, b"", next)
+    put_number_line(buffer, next_at, b"", next_of(word))
 }
 
 // The lines of a state.
@@ -89,12 +89,10 @@ fn put_names(buffer: &mut [u8], upstream: Name, target: Name, way: Way) -> usize
     ensures { Put buffer.old buffer.new 0 result
         (names_line (unfilled upstream.bytes) (unfilled target.bytes) way) }
 {
-    let first = upstream.bytes;
-    let second = target.bytes;
-    let first_end = printing::put_name(buffer, 0, &first);
-    let second_at = printing::put(buffer, first_end, b" ");
-    let second_end = printing::put_name(buffer, second_at, &second);
-    let way_at = printing::put(buffer, second_end, b" ");
+    let upstream_end = printing::put_name(buffer, 0, &upstream.bytes);
+    let target_at = printing::put(buffer, upstream_end, b" ");
+    let target_end = printing::put_name(buffer, target_at, &target.bytes);
+    let way_at = printing::put(buffer, target_end, b" ");
     put_way(buffer, way_at, way)
 }
 
@@ -129,12 +127,9 @@ pub(crate) fn put_listing<'a>(
     ensures { Put buffer.old buffer.new 0 result
         (listing (made_listing models machine rows.now output.now fences)) }
 {
-    let upstream = models.upstream;
-    let target = models.target;
-    let way = models.way;
     let states = machine.states;
     let letters = ACCESSES + machine.ups;
-    let states_at = put_names(buffer, upstream.name, target.name, way);
+    let states_at = put_names(buffer, models.upstream.name, models.target.name, models.way);
     let rows_at = put_number_line(buffer, states_at, b"states ", states as u64);
     let out_at = put_rows(buffer, rows_at, rows, states, letters);
     let fences_at = put_out(buffer, out_at, output);

@@ -10,7 +10,7 @@ pub returns-in-Refused : goal.returns-in-Refused
 unfolding comparing
 returns-in-Refused c =
     let s = reading c.args.second.now in
-    let r = c.read-r in
+    let r = c.read-read in
     ap (λ (v : Verdict). compared_first v r.result.model.ppo s) (sym c.in-Refused.is)
     ∙ ap (λ (x : Reading). compared_first x.verdict x.model.ppo s) r.ensures.equation
 
@@ -18,7 +18,7 @@ pub returns-in-Accepted : goal.returns-in-Accepted
 unfolding comparing
 returns-in-Accepted c =
     let s = reading c.args.second.now in
-    let r = c.read-r in
+    let r = c.read-read in
     c.compare_with.ensures
     ∙ ap (λ (x : Reading). compared_both r.result.model.ppo x.verdict x.model.ppo) c.read.ensures.equation
     ∙ ap (λ (v : Verdict). compared_first v r.result.model.ppo s) (sym c.in-Accepted.is)
