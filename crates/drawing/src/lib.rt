@@ -34,13 +34,11 @@ pub fn draw(image: &[u8], out: &mut [u8]) -> Answer
 {
     let mut rows = [0u16; WORDS];
     let reading = reader::read(image, &mut rows);
-    let verdict = reading.verdict;
-    let header = reading.header;
-    match verdict {
+    match reading.verdict {
         Verdict::Refused(why) => Answer::Refused(why),
         Verdict::Accepted => {
-            let n = ground::wide(header.states) * STRIDE;
-            write_drawing(header, &rows[..n], out)
+            let n = ground::wide(reading.header.states) * STRIDE;
+            write_drawing(reading.header, &rows[..n], out)
         }
     }
 }

@@ -15,9 +15,10 @@ fn put_way(buffer: &mut [u8], at: usize, way: u8) -> usize
     ensures { Put buffer.old buffer.new at result (way_word way) }
 {
     if way == 0 {
-        return printing::put(buffer, at, b"sparing");
+        printing::put(buffer, at, b"sparing")
+    } else {
+        printing::put(buffer, at, b"full")
     }
-    printing::put(buffer, at, b"full")
 }
 
 // The label's two counts, to the end of its line.
@@ -35,12 +36,10 @@ fn put_counts(buffer: &mut [u8], at: usize, ups: u8, targets: u8) -> usize
 fn put_label(buffer: &mut [u8], at: usize, h: Header) -> usize
     ensures { Put buffer.old buffer.new at result (label_line h) }
 {
-    let upstream = h.upstream;
-    let target = h.target;
     let upstream_at = printing::put(buffer, at, b"label=\"");
-    let upstream_end = printing::put_name(buffer, upstream_at, &upstream);
+    let upstream_end = printing::put_name(buffer, upstream_at, &h.upstream);
     let target_at = printing::put(buffer, upstream_end, b" ");
-    let target_end = printing::put_name(buffer, target_at, &target);
+    let target_end = printing::put_name(buffer, target_at, &h.target);
     let way_at = printing::put(buffer, target_end, b" ");
     let way_end = put_way(buffer, way_at, h.way);
     put_counts(buffer, way_end, h.ups, h.targets)
@@ -69,9 +68,10 @@ fn put_next(buffer: &mut [u8], at: usize, word: u16) -> usize
     ensures { Put buffer.old buffer.new at result (leads_to word) }
 {
     if word / 256 == 254 {
-        return printing::put(buffer, at, b"refused");
+        printing::put(buffer, at, b"refused")
+    } else {
+        printing::put_decimal(buffer, at, (word % 256) as u64)
     }
-    printing::put_decimal(buffer, at, (word % 256) as u64)
 }
 
 // The edge of a state and a letter.
