@@ -16,8 +16,7 @@ fn list_tail<'a>(upstream: &'a [u8], target: &'a [u8], tail: &'a [u8], out: &mut
     ensures { Answers (ShapeListed (with_ending upstream.now target.now (ending_of (lines tail.now))))
         out.old result out.new }
 {
-    let found = shape::tail_of(tail);
-    match found {
+    match shape::tail_of(tail) {
         Tail::Other => Answer::Refused(Refusal::NotOfTheForm(0)),
         Tail::Of { way, stream } => {
             let end = tail.len() - 1;
@@ -31,8 +30,7 @@ fn list_rest<'a>(upstream: &'a [u8], rest: &'a [u8], out: &mut [u8]) -> Answer
     ensures { Answers (ShapeListed (with_target upstream.now (through (lines rest.now))))
         out.old result out.new }
 {
-    let found = shape::text_end(rest);
-    match found {
+    match shape::text_end(rest) {
         Found::Nowhere => Answer::Refused(Refusal::NotOfTheForm(0)),
         Found::At(n) => list_tail(upstream, &rest[..n], &rest[n..], out),
     }
@@ -45,8 +43,7 @@ pub fn list(input: &[u8], out: &mut [u8]) -> Answer
     if 32768 < input.len() {
         return Answer::Refused(Refusal::OverLimit);
     }
-    let found = shape::text_end(input);
-    match found {
+    match shape::text_end(input) {
         Found::Nowhere => Answer::Refused(Refusal::NotOfTheForm(0)),
         Found::At(n) => list_rest(&input[..n], &input[n..], out),
     }

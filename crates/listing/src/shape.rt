@@ -63,8 +63,7 @@ fn is_run(line: &[u8]) -> bool
 fn only_run(rest: &[u8]) -> bool
     ensures { OnlyRun rest.now result }
 {
-    let line = line_end(rest);
-    match line {
+    match line_end(rest) {
         Found::Nowhere => false,
         Found::At(n) => { n == rest.len() && is_run(rest) }
     }
@@ -74,12 +73,10 @@ fn only_run(rest: &[u8]) -> bool
 pub(crate) fn tail_of(text: &[u8]) -> Tail
     ensures { EndingAt text.now result }
 {
-    let line = line_end(text);
-    match line {
+    match line_end(text) {
         Found::Nowhere => Tail::Other,
         Found::At(n) => {
-            let read = way_in(&text[..n]);
-            match read {
+            match way_in(&text[..n]) {
                 WayRead::Nothing => Tail::Other,
                 WayRead::Is(way) => {
                     if only_run(&text[n..]) {

@@ -11,11 +11,11 @@ returns-then-input-gt32768 c = input_over c.args.input.now c.args.out.now c.if-i
 pub returns-in-Nowhere : goal.returns-in-Nowhere
 returns-in-Nowhere c =
     let a = c.args in
-    let no_text = subst (TextEnd a.input.now) c.in-Nowhere.is c.text_end-found.ensures in
+    let no_text = subst (TextEnd a.input.now) c.in-Nowhere.is c.text_end.ensures in
     input_within c.if-input-gt32768.false (shape_none a.out.now (ap with_upstream no_text))
 
 pub returns-in-At : goal.returns-in-At
 returns-in-At c =
     let a = c.args in
-    let found = subst (TextEnd a.input.now) c.in-At.is c.text_end-found.ensures in
+    let found = subst (TextEnd a.input.now) c.in-At.is c.text_end.ensures in
     input_within c.if-input-gt32768.false (shape_as (upstream_found a.input.now found) c.list_rest.ensures)

@@ -8,11 +8,11 @@ use Rattle.listing.proofs.list_tail.Goals as goal
 pub returns-in-Other : goal.returns-in-Other
 returns-in-Other c =
     let a = c.args in
-    let none = subst (EndingAt a.tail.now) c.in-Other.is c.tail_of-found.ensures in
+    let none = subst (EndingAt a.tail.now) c.in-Other.is c.tail_of.ensures in
     shape_none a.out.now (ap (with_ending a.upstream.now a.target.now) none)
 
 pub returns-in-Of : goal.returns-in-Of
 returns-in-Of c =
     let a = c.args in
-    let whole = (subst (EndingAt a.tail.now) c.in-Of.is c.tail_of-found.ensures).whole in
+    let whole = (subst (EndingAt a.tail.now) c.in-Of.is c.tail_of.ensures).whole in
     shape_some (ap (with_ending a.upstream.now a.target.now) whole) c.list_parts.ensures

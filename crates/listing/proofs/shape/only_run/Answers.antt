@@ -8,10 +8,10 @@ use Rattle.listing.proofs.shape.only_run.Goals as goal
 
 pub returns-then-n-rest : goal.returns-then-n-rest
 returns-then-n-rest c =
-    let line = subst (LineEnd c.args.rest.now) c.in-At.is c.line_end-line.ensures in
+    let line = subst (LineEnd c.args.rest.now) c.in-At.is c.line_end.ensures in
     run_alone line c.if-n-rest.true c.is_run.ensures
 
 pub returns-else-n-rest : goal.returns-else-n-rest
 returns-else-n-rest c =
-    let line = subst (LineEnd c.args.rest.now) c.in-At.is c.line_end-line.ensures in
+    let line = subst (LineEnd c.args.rest.now) c.in-At.is c.line_end.ensures in
     rw (ne_eqb c.in-At.n (length c.args.rest.now) c.if-n-rest.false) (run_and_more line c.if-n-rest.false)
