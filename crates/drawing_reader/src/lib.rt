@@ -89,8 +89,7 @@ fn read(text: &[u8], rows: &mut [u16]) -> DrawingRead
         × Fielded result.header.upstream × Fielded result.header.target }
 {
     let label = drawing_label::label(text);
-    let step = label.step;
-    match step {
+    match label.step {
         Step::Stuck(place) => DrawingRead {
             step: Step::Stuck(place),
             header: header_for(label, 0),
@@ -108,16 +107,14 @@ pub fn undraw(text: &[u8], out: &mut [u8]) -> Answer
     }
     let mut rows = [0u16; WORDS];
     let drawing = read(text, &mut rows);
-    let step = drawing.step;
-    let header = drawing.header;
-    match step {
+    match drawing.step {
         Step::Stuck(place) => Answer::Refused(Refusal::NotOfTheForm(place)),
         Step::Next(end) => {
             if end != text.len() {
                 return Answer::Refused(Refusal::NotOfTheForm(end));
             }
-            let n = ground::wide(header.states) * STRIDE;
-            writer::write(header, &rows[..n], out)
+            let n = ground::wide(drawing.header.states) * STRIDE;
+            writer::write(drawing.header, &rows[..n], out)
         }
     }
 }
