@@ -21,15 +21,13 @@ pub struct Shape {
 }
 
 // The fence that a byte names, 16 where it names none.
+#[tactic(auto, using(crate::proofs::Marks::named_fence, crate::proofs::Marks::named_access, crate::proofs::Marks::named_nothing))]
 fn fence_number(b: u8) -> usize
     ensures { result ≡ fence_number b }
 {
     match operations::read_byte(b) {
-        Byte::Is(operation) => match operation {
-            Operation::Fence(n) => n,
-            Operation::Access(kind) => 16,
-        },
-        Byte::Nothing => 16,
+        Byte::Is(Operation::Fence(n)) => n,
+        _ => 16,
     }
 }
 
