@@ -1,9 +1,8 @@
 -- The nearest shape that a machine can have is one, and of a shape that a machine can have it is that shape. Assumes nothing.
-use Prim.Native.Nat.{ℕ, max, min}
+use Prim.Native.Nat.{ℕ}
 use mathlib.Core.Path.{◌≡◌, subst}
 use mathlib.Core.List.{List}
 use native.Mathlib.Omega.{arith}
-use Rattle.operations.specs.Alphabet.{stride}
 use Rattle.texts.specs.Telling.{Taken, Finds}
 use Rattle.drawing_edges.specs.declared.Shape.{Shape}
 use Rattle.drawing_edges.specs.Edges.{EdgePart, Shaped, nearest}

@@ -95,10 +95,8 @@ fn advance<'a>(
 {
     match operations::read_byte(byte) {
         Byte::Nothing => Move::Refused(Refusal::NoOperation(at)),
-        Byte::Is(operation) => match operation {
-            Operation::Access(kind) => access(shim, targets, situation, at, kind),
-            Operation::Fence(number) => ask(fences, situation, at, number),
-        },
+        Byte::Is(Operation::Access(kind)) => access(shim, targets, situation, at, kind),
+        Byte::Is(Operation::Fence(number)) => ask(fences, situation, at, number),
     }
 }
 
