@@ -111,9 +111,6 @@ compares_is {a} {b} (neither not_same not_first not-second) = by (compares a b)
     by (second s) = absurd (not-second s)
     by (neither x y z) = refl
 
--- an answer reached by the two tests, which were made by calls
-pub decided : (a b : Table) {r : Comparison} {v w : Bool} (x y : Bool) → v ≡ at_least a b → v ≡ x → w ≡ at_least b a → w ≡ y → r ≡ by_tests x y
-    → (r ≡ comparison a b) × Compares a b r
-decided a b x y p v q w is =
-    let e = is ∙ sym (tested a b x y (sym p ∙ v) (sym q ∙ w)) in
-    (e, subst (Compares a b) (sym e) (compares a b))
+-- what the function says the words say
+pub compares_if : {a b : Table} {r : Comparison} → r ≡ comparison a b → Compares a b r
+compares_if {a} {b} e = subst (Compares a b) (sym e) (compares a b)

@@ -33,20 +33,17 @@ impl Comparison {
 pub type Compared = Result<Comparison, Refusal>;
 
 // Compares two tables.
+#[tactic(auto, using(crate::proofs::Words::compares_if), unfolding(crate::specs::Comparison::comparison))]
 pub fn compare_tables(first: Table, second: Table) -> Comparison
     ensures equation { result ≡ comparison first second }
     ensures words { Compares first second result }
 {
-    if first.at_least(second) {
-        if second.at_least(first) {
-            return Comparison::Equal;
-        }
-        return Comparison::FirstStronger;
+    match (first.at_least(second), second.at_least(first)) {
+        (true, true) => Comparison::Equal,
+        (true, false) => Comparison::FirstStronger,
+        (false, true) => Comparison::SecondStronger,
+        (false, false) => Comparison::Neither,
     }
-    if second.at_least(first) {
-        return Comparison::SecondStronger;
-    }
-    Comparison::Neither
 }
 
 // Compares the models of two texts.

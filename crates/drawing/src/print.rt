@@ -15,9 +15,10 @@ fn put_way(buffer: &mut [u8], at: usize, way: u8) -> usize
     ensures { Put buffer.old buffer.new at result (way_word way) }
 {
     if way == 0 {
-        return printing::put(buffer, at, b"sparing");
+        printing::put(buffer, at, b"sparing")
+    } else {
+        printing::put(buffer, at, b"full")
     }
-    printing::put(buffer, at, b"full")
 }
 
 // The label's two counts, to the end of its line.
@@ -35,12 +36,10 @@ fn put_counts(buffer: &mut [u8], at: usize, ups: u8, targets: u8) -> usize
 fn put_label(buffer: &mut [u8], at: usize, h: Header) -> usize
     ensures { Put buffer.old buffer.new at result (label_line h) }
 {
-    let upstream = h.upstream;
-    let target = h.target;
     let upstream_at = printing::put(buffer, at, b"label=\"");
-    let upstream_end = printing::put_name(buffer, upstream_at, &upstream);
+    let upstream_end = printing::put_name(buffer, upstream_at, &h.upstream);
     let target_at = printing::put(buffer, upstream_end, b" ");
-    let target_end = printing::put_name(buffer, target_at, &target);
+    let target_end = printing::put_name(buffer, target_at, &h.target);
     let way_at = printing::put(buffer, target_end, b" ");
     let way_end = put_way(buffer, way_at, h.way);
     put_counts(buffer, way_end, h.ups, h.targets)
@@ -58,10 +57,8 @@ fn put_nodes(buffer: &mut [u8], at: usize, states: usize) -> usize
     ensures { Put buffer.old buffer.new at result (in_turn node_line states) }
 {
     let mut here = at;
-    let mut state = 0;
-    while state < states {
+    for state in 0..states {
         here = put_node(buffer, here, state);
-        state += 1;
     }
     here
 }
@@ -71,9 +68,10 @@ fn put_next(buffer: &mut [u8], at: usize, word: u16) -> usize
     ensures { Put buffer.old buffer.new at result (leads_to word) }
 {
     if word / 256 == 254 {
-        return printing::put(buffer, at, b"refused");
+        printing::put(buffer, at, b"refused")
+    } else {
+        printing::put_decimal(buffer, at, (word % 256) as u64)
     }
-    printing::put_decimal(buffer, at, (word % 256) as u64)
 }
 
 // The edge of a state and a letter.
@@ -99,10 +97,8 @@ fn put_state(buffer: &mut [u8], at: usize, rows: &[u16], letters: usize, state: 
     ensures { Put buffer.old buffer.new at result (state_edges letters rows.now state) }
 {
     let mut here = at;
-    let mut letter = 0;
-    while letter < letters {
+    for letter in 0..letters {
         here = put_edge(buffer, here, state, letter, rows[state * STRIDE + letter]);
-        letter += 1;
     }
     here
 }
@@ -113,10 +109,8 @@ fn put_edges(buffer: &mut [u8], at: usize, rows: &[u16], letters: usize, states:
     ensures { Put buffer.old buffer.new at result (in_turn (state_edges letters rows.now) states) }
 {
     let mut here = at;
-    let mut state = 0;
-    while state < states {
+    for state in 0..states {
         here = put_state(buffer, here, rows, letters, state);
-        state += 1;
     }
     here
 }

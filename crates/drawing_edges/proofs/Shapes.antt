@@ -1,9 +1,8 @@
 -- The nearest shape that a machine can have is one, and of a shape that a machine can have it is that shape. Assumes nothing.
-use Prim.Native.Nat.{ℕ, max, min}
+use Prim.Native.Nat.{ℕ}
 use mathlib.Core.Path.{◌≡◌, subst}
 use mathlib.Core.List.{List}
 use native.Mathlib.Omega.{arith}
-use Rattle.operations.specs.Alphabet.{stride}
 use Rattle.texts.specs.Telling.{Taken, Finds}
 use Rattle.drawing_edges.specs.declared.Shape.{Shape}
 use Rattle.drawing_edges.specs.Edges.{EdgePart, Shaped, nearest}
@@ -21,12 +20,5 @@ nearest_own : (sh : Shape) → Shaped sh → nearest sh ≡ sh
 nearest_own sh h = same (omega (arith, h.some, h.states)) (omega (arith, h.letters)) (omega (arith, h.targets))
 
 module _ (sh : Shape) (state letter : ℕ) {t : List ℕ} {at : ℕ} {x : Taken ℕ} where
-  -- the edge of a shape that was made the nearest, field by field
-  pub nearest_made : {states letters targets : ℕ} → states ≡ min (max 1 sh.states) 255 → letters ≡ min sh.letters stride
-      → targets ≡ min sh.targets 16
-      → Finds (EdgePart (shape states letters targets) state letter) t at x
-      → Finds (EdgePart (nearest sh) state letter) t at x
-  nearest_made p q r = subst (λ (s : Shape). Finds (EdgePart s state letter) t at x) (same p q r)
-
   pub edge_own : Shaped sh → Finds (EdgePart (nearest sh) state letter) t at x → Finds (EdgePart sh state letter) t at x
   edge_own h = subst (λ (s : Shape). Finds (EdgePart s state letter) t at x) (nearest_own sh h)

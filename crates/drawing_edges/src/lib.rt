@@ -1,7 +1,7 @@
 // One edge of a drawing, read back: the word of a state and a letter.
 #![tactic(auto)]
 
-ghost use Rattle.std.specs.Prelude.{◌≤◌, ◌<◌, max, min, ◌≡◌, T};
+ghost use Rattle.std.specs.Prelude.{◌≤◌, ◌<◌, ◌≡◌, T};
 ghost use Rattle.texts.specs.Pattern.{is_word, follow_at};
 ghost use Rattle.texts.specs.Telling.{Through, Word, Finds, part_taken};
 ghost use Rattle.drawing_edges.specs.Edges.{fence_number, middle, MarkPart, RefusedLabel, Refused, Marked};
@@ -21,15 +21,13 @@ pub struct Shape {
 }
 
 // The fence that a byte names, 16 where it names none.
+#[tactic(auto, using(crate::proofs::Marks::named_fence, crate::proofs::Marks::named_access, crate::proofs::Marks::named_nothing))]
 fn fence_number(b: u8) -> usize
     ensures { result ≡ fence_number b }
 {
     match operations::read_byte(b) {
-        Some(operation) => match operation {
-            Operation::Fence(n) => n,
-            Operation::Access(kind) => 16,
-        },
-        None => 16,
+        Some(Operation::Fence(n)) => n,
+        _ => 16,
     }
 }
 
@@ -150,33 +148,15 @@ fn edge(text: &[u8], at: usize, shape: Shape, state: usize, letter: usize) -> Pa
     }
 }
 
-// A machine has at least one state.
-fn at_least_one(states: u8) -> u8
-    ensures { result ≡ min (max 1 states) 255 }
-{
-    if states == 0 {
-        return 1;
-    }
-    states
-}
-
-fn at_most(n: usize, most: usize) -> usize
-    ensures { result ≡ min n most }
-{
-    if most < n {
-        return most;
-    }
-    n
-}
-
-// The edge of a state and a letter in a machine of any shape: one that no machine has counts as the nearest that one has.
+// The edge of a state and a letter in a machine of any shape: one that no machine has counts as the nearest that one has. A machine has at least
+// one state.
 pub fn edge_line(text: &[u8], at: usize, shape: Shape, state: usize, letter: usize) -> Part
     ensures { Finds (EdgePart (nearest shape) state letter) text.now at (part_taken result) }
 {
     let possible = Shape {
-        states: at_least_one(shape.states),
-        letters: at_most(shape.letters, STRIDE),
-        targets: at_most(shape.targets, 16),
+        states: shape.states.max(1),
+        letters: shape.letters.min(STRIDE),
+        targets: shape.targets.min(16),
     };
     edge(text, at, possible, state, letter)
 }

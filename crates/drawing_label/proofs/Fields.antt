@@ -1,26 +1,47 @@
 -- A name in its field: name bytes are no zeros, so the name is what stands there before the first zero. Assumes nothing.
 use Prim.Native.Nat.{ℕ, zero, suc, ◌+◌, ◌-◌, ◌≤◌, ◌<◌, suc-le-suc}
 use mathlib.Core.Path.{◌≡◌, refl, sym, ap, ap₂, subst, ◌∙◌}
+use mathlib.Core.Bool.{Bool, true, false, cond}
 use mathlib.Core.List.{List, [], ◌∷◌, ◌++◌}
 use native.Mathlib.Omega.{arith}
 use borrow.Author.Tests.{ne_eqb}
 use lib.Dec.{T}
 use lib.ListN.{length, take, drop, get_or, replicate, length-drop, length-replicate, get_or-replicate, take-append-drop}
 use lib.Seq.{length-take-le, get_or-drop, get_or-take, ext_get_or}
+use Rattle.std.specs.Prelude.{take_while}
+use Rattle.std.proofs.lemmas.List.{drop-replicate}
+use Rattle.std.proofs.lemmas.List.Sums.{take_while-cons}
 use Rattle.ground.specs.Bytes.{name_byte}
 use Rattle.ground.proofs.Truths.{is_true, holds}
 use Rattle.texts.specs.NamePart.{NameBytes, NameFormed, name_run}
-use Rattle.texts.proofs.NamePart.{each_at, run_bytes}
+use Rattle.texts.proofs.NamePart.{each_at, run_bytes, run_within}
 use Rattle.printing.specs.Name.{unfilled}
 use Rattle.image.specs.Image.{NameField}
 use Rattle.image.proofs.NameFields.{filled_field}
 use Rattle.drawing_label.specs.Label.{name_in, name_from, field}
 
 -- all the bytes of a name that were counted
-pub field_done : (s : List ℕ) (i : ℕ) → i ≤ length s → i ≡ name_run 16 s → take i s ++ replicate (16 - i) 0 ≡ field (name_in s)
+field_done : (s : List ℕ) (i : ℕ) → i ≤ length s → i ≡ name_run 16 s → take i s ++ replicate (16 - i) 0 ≡ field (name_in s)
 field_done s i ls e =
     ap₂ (λ (l : List ℕ) (n : ℕ). l ++ replicate (16 - n) 0) (ap (λ (k : ℕ). take k s) e)
     (sym (length-take-le i s ls) ∙ ap (λ (k : ℕ). length (take k s)) e)
+
+-- which a chain counts
+run_taken : (k : ℕ) (s : List ℕ) → length (take_while name_byte (take k s)) ≡ name_run k s
+unfolding name_run
+run_taken zero s = refl
+run_taken (suc k) [] = refl
+run_taken (suc k) (b ∷ s) = ap length (take_while-cons name_byte b (take k s)) ∙ by (name_byte b) (run_taken k s)
+  where
+    by : (q : Bool) → length (take_while name_byte (take k s)) ≡ name_run k s
+        → length (cond q (b ∷ take_while name_byte (take k s)) []) ≡ cond q (suc (name_run k s)) 0
+    by true e = ap suc e
+    by false e = refl
+
+pub field_counted : (s : List ℕ) (n : ℕ) → n ≡ length (take_while name_byte (take 16 s)) → take n s ++ drop n (replicate 16 0) ≡ field (name_in s)
+field_counted s n e =
+    let all : n ≡ name_run 16 s = e ∙ run_taken 16 s in
+    ap (λ (x : List ℕ). take n s ++ x) (drop-replicate n 16 0) ∙ field_done s n (omega (arith, all, run_within s)) all
 
 -- a name is what stands before the zeros
 unfilled_front : (n : List ℕ) (p : ℕ) → NameBytes n → unfilled (n ++ replicate p 0) ≡ n

@@ -3,7 +3,8 @@
 // label has been read.
 #![tactic(auto)]
 
-ghost use Rattle.std.specs.Prelude.{◌≡◌, IfOk};
+ghost use Rattle.std.specs.Prelude.{◌≤◌, ◌≡◌, length, take, take_while, IfOk};
+ghost use Rattle.ground.specs.Bytes.{name_byte};
 ghost use Rattle.texts.specs.Telling.{Finds, part_taken};
 ghost use Rattle.drawing_label.specs.Label.{WayPart, FromTargets, FromUps, FromWay, FromTarget, FromUpstream, LabelPart};
 ghost use Rattle.drawing_label.specs.Label.{name_from, field, places_taken, label_taken, Fits};
@@ -127,23 +128,25 @@ fn label_places(text: &[u8]) -> Result<Places, usize>
     }
 }
 
+// How many name bytes stand in front, counted up to 16.
+fn name_length(text: &[u8]) -> usize
+    ensures within { (result ≤ 16) × (result ≤ length text.now) }
+    ensures count { result ≡ length (take_while name_byte (take 16 text.now)) }
+{
+    text.iter()
+        .take(16)
+        .take_while(|byte| ground::is_name_byte(**byte))
+        .count()
+}
+
 // The name at a place of the text, filled up with zeros.
 fn name_field(text: &[u8], at: usize) -> [u8; 16]
     ensures { result ≡ field (name_from text.now at) }
 {
     let mut bytes = [0u8; 16];
-    let mut here = at;
-    let mut n = 0;
-    while n < 16 {
-        if text.len() <= here {
-            return bytes;
-        }
-        if !ground::is_name_byte(text[here]) {
-            return bytes;
-        }
-        bytes[n] = text[here];
-        here += 1;
-        n += 1;
+    if let Some(rest) = text.get(at..) {
+        let n = name_length(rest);
+        bytes[..n].copy_from_slice(&rest[..n]);
     }
     bytes
 }

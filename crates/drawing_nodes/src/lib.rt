@@ -24,8 +24,7 @@ fn more_nodes(text: &[u8], at: usize) -> Part
     ensures { Finds (NodesFrom 254 1) text.now at (nodes_taken result) }
 {
     let mut here = at;
-    let mut number = 1;
-    while number < 255 {
+    for number in 1..255 {
         if ground::byte_at(text, here) == b'0' {
             return Ok((here, number));
         }
@@ -33,9 +32,8 @@ fn more_nodes(text: &[u8], at: usize) -> Part
             Err(place) => return Err(place),
             Ok(next) => here = next,
         }
-        number += 1;
     }
-    nodes_end(text, here, number)
+    nodes_end(text, here, 255)
 }
 
 // The place of the first edge, and how many nodes there are.

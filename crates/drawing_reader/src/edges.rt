@@ -15,14 +15,12 @@ fn edge_row(text: &[u8], start: usize, rows: &mut [u16], shape: Shape, state: us
 {
     let letters = shape.letters;
     let mut here = start;
-    let mut letter = 0;
-    while letter < letters {
+    for letter in 0..letters {
         match drawing_edges::edge_line(text, here, shape, state, letter) {
             Err(place) => return Err(place),
             Ok((past, word)) => {
                 rows[state * STRIDE + letter] = word as u16;
                 here = past;
-                letter += 1;
             }
         }
     }
@@ -36,14 +34,10 @@ pub(crate) fn edge_rows(text: &[u8], start: usize, rows: &mut [u16], shape: Shap
 {
     let states = ground::wide(shape.states);
     let mut here = start;
-    let mut state = 0;
-    while state < states {
+    for state in 0..states {
         match edge_row(text, here, rows, shape, state) {
             Err(place) => return Err(place),
-            Ok(past) => {
-                here = past;
-                state += 1;
-            }
+            Ok(past) => here = past,
         }
     }
     Ok(here)

@@ -29,9 +29,10 @@ fn next_of(word: u16) -> u64
     ensures { result ≡ next_state (decoded word) }
 {
     if word / 256 == 254 {
-        return 0;
+        0
+    } else {
+        (word % 256) as u64
     }
-    (word % 256) as u64
 }
 
 // The line of a state and a letter.
@@ -45,10 +46,9 @@ fn put_step(buffer: &mut [u8], at: usize, state: usize, letter: usize, word: u16
         alphabet::fence_mark(word / 256),
         b' ',
     ];
-    let next = next_of(word);
     let middle_at = printing::put_decimal(buffer, at, state as u64);
     let next_at = printing::put(buffer, middle_at, &middle);
-    put_number_line(buffer, next_at, b"", next)
+    put_number_line(buffer, next_at, b"", next_of(word))
 }
 
 // The lines of a state.
@@ -57,10 +57,8 @@ fn put_state(buffer: &mut [u8], at: usize, rows: &[u16], state: usize, letters: 
     ensures { Put buffer.old buffer.new at result (state_lines state (answer_at rows.now state) letters) }
 {
     let mut here = at;
-    let mut letter = 0;
-    while letter < letters {
+    for letter in 0..letters {
         here = put_step(buffer, here, state, letter, rows[state * STRIDE + letter]);
-        letter += 1;
     }
     here
 }
@@ -71,10 +69,8 @@ fn put_rows(buffer: &mut [u8], at: usize, rows: &[u16], states: usize, letters: 
     ensures { Put buffer.old buffer.new at result (row_lines (answer_at rows.now) letters states) }
 {
     let mut here = at;
-    let mut state = 0;
-    while state < states {
+    for state in 0..states {
         here = put_state(buffer, here, rows, state, letters);
-        state += 1;
     }
     here
 }
@@ -93,12 +89,10 @@ fn put_names(buffer: &mut [u8], upstream: Name, target: Name, way: Way) -> usize
     ensures { Put buffer.old buffer.new 0 result
         (names_line (unfilled upstream.bytes) (unfilled target.bytes) way) }
 {
-    let first = upstream.bytes;
-    let second = target.bytes;
-    let first_end = printing::put_name(buffer, 0, &first);
-    let second_at = printing::put(buffer, first_end, b" ");
-    let second_end = printing::put_name(buffer, second_at, &second);
-    let way_at = printing::put(buffer, second_end, b" ");
+    let upstream_end = printing::put_name(buffer, 0, &upstream.bytes);
+    let target_at = printing::put(buffer, upstream_end, b" ");
+    let target_end = printing::put_name(buffer, target_at, &target.bytes);
+    let way_at = printing::put(buffer, target_end, b" ");
     put_way(buffer, way_at, way)
 }
 
@@ -133,12 +127,9 @@ pub(crate) fn put_listing<'a>(
     ensures { Put buffer.old buffer.new 0 result
         (listing (made_listing models machine rows.now output.now fences)) }
 {
-    let upstream = models.upstream;
-    let target = models.target;
-    let way = models.way;
     let states = machine.states;
     let letters = ACCESSES + machine.ups;
-    let states_at = put_names(buffer, upstream.name, target.name, way);
+    let states_at = put_names(buffer, models.upstream.name, models.target.name, models.way);
     let rows_at = put_number_line(buffer, states_at, b"states ", states as u64);
     let out_at = put_rows(buffer, rows_at, rows, states, letters);
     let fences_at = put_out(buffer, out_at, output);

@@ -7,13 +7,11 @@ use mathlib.Core.List.{List}
 use native.Mathlib.Omega.{arith}
 use lib.ListN.{length, replicate, length-append, length-replicate}
 use Rattle.ground.proofs.Truths.{differ}
-use Rattle.answers.specs.Answer.{Verdict}
 use Rattle.answers.specs.Given.{Given, gives}
 use Rattle.models.specs.declared.model.Model.{Model}
-use Rattle.models.specs.Told.{Reading}
 use Rattle.models.specs.Reading.{reading}
-use Rattle.models.specs.Told.{accepting, Told, over as too_long, departs, repeated, accepted}
-use Rattle.models.proofs.Words.{told}
+use Rattle.models.specs.Told.{held, accepting}
+use Rattle.models.proofs.Words.{told, model_told}
 use Rattle.printing.proofs.Names.{unfilled_short}
 use Rattle.shims.specs.declared.Models.{Models}
 use Rattle.shims.specs.Opening.{opened_by, Opens}
@@ -70,7 +68,7 @@ module _ (input text : List ℕ) (fences state : ℕ) where
   by_parts l p s h =
       let read = opened_by (Some p.way) p.upstream p.target in
       let o = given_opened read (λ (m : Models). ModelsListed m p.stream) text fences state h in
-      by_models l p s read.models (opens (Some p.way) p.upstream p.target o.0) o.1 refl
+      by_models l p s o.0 (opens (Some p.way) p.upstream p.target o.1) o.2 refl
 
   by_shape : length input ≤ 32768 → {q : Option Parts} → shape input ≡ q → {g : Given} → ShapeListed q g → g ≡ gives text fences state → Accepts
   by_shape l s shapeless e = differ (cc)
@@ -81,20 +79,17 @@ module _ (input text : List ℕ) (fences state : ℕ) where
   by_length (within l h) e = by_shape l refl h e
 
 -- the name of a model that was read
-name-length : {t : List ℕ} {r : Reading} → Told t r → r.verdict ≡ (Ok tt) → length r.model.name.bytes ≤ 16
-name-length (too_long l) e = differ (cc)
-name-length (departs l n k) e = differ (cc)
-name-length (repeated d k l f t s) e = differ (cc)
-name-length (accepted d l f t s) e =
-    omega (
-      arith,
-      length-append d.name (replicate (16 - length d.name) 0),
-      length-replicate {A = ℕ} (16 - length d.name) 0,
-      f.name.few,
-    )
-
 short_name : (text : List ℕ) {m : Model} → reading text ≡ accepting m → length m.name.bytes ≤ 16
-short_name text {m} e = name-length (subst (Told text) e (told text)) refl
+short_name text e =
+    let d = model_told (told text) e in
+    let name : List ℕ = d.0.name in
+    let few : length (held d.0).name.bytes ≤ 16 = omega (
+      arith,
+      length-append name (replicate (16 - length name) 0),
+      length-replicate {A = ℕ} (16 - length name) 0,
+      d.1.name.few,
+    ) in
+    subst (λ (x : Model). length x.name.bytes ≤ 16) d.2 few
 
 module _ {input text : List ℕ} {fences state : ℕ} (call : AcceptedInput input text fences state) where
   next_state_lem : (i a : ℕ) → i < call.states → a < (rule_of call.models).letters → next_state (call.row i a) < 1000

@@ -167,9 +167,6 @@ module _ (t : List ℕ) (at : ℕ) (so : SoFar t at) where
             ∙ ap₂ (λ (x y : List ℕ). Some (record { text = x; rest = lines y })) (sym (take-add at n t)) (drop-drop n at t);
       }
 
-  pub no_text_found : through (lines (drop at t)) ≡ None → through (lines t) ≡ None
-  no_text_found e = so ∙ ap (joined (take at t)) e
-
 -- what is left of a text from a place on, as a part of it
 pub part_rest : (t : List ℕ) (at : ℕ) → take (length t - at) (drop at t) ≡ drop at t
 part_rest t at = take_all (length t - at) (drop at t) (omega (arith, length-drop at t))

@@ -7,7 +7,6 @@ ghost use Rattle.answers.specs.Given.{Answers};
 ghost use Rattle.listing.specs.Shape.{lines, through, ending_of, with_ending, with_target};
 ghost use Rattle.listing.specs.Listed.{ShapeListed, Listed};
 
-use crate::shape::Tail;
 use answers::{Answer, Refusal};
 
 // Lists an input whose texts were found, and whose way and stream stand in the rest.
@@ -15,12 +14,11 @@ fn list_tail<'a>(upstream: &'a [u8], target: &'a [u8], tail: &'a [u8], out: &mut
     ensures { Answers (ShapeListed (with_ending upstream.now target.now (ending_of (lines tail.now))))
         out.old result out.new }
 {
-    let found = shape::tail_of(tail);
-    match found {
-        Tail::Other => Err(Refusal::NotOfTheForm(0)),
-        Tail::Of { way, stream } => {
+    match shape::tail_of(tail) {
+        None => Err(Refusal::NotOfTheForm(0)),
+        Some(found) => {
             let end = tail.len() - 1;
-            listed::list_parts(way, upstream, target, &tail[stream..end], out)
+            listed::list_parts(found.way, upstream, target, &tail[found.stream..end], out)
         }
     }
 }
@@ -30,8 +28,7 @@ fn list_rest<'a>(upstream: &'a [u8], rest: &'a [u8], out: &mut [u8]) -> Answer
     ensures { Answers (ShapeListed (with_target upstream.now (through (lines rest.now))))
         out.old result out.new }
 {
-    let found = shape::text_end(rest);
-    match found {
+    match shape::text_end(rest) {
         None => Err(Refusal::NotOfTheForm(0)),
         Some(n) => list_tail(upstream, &rest[..n], &rest[n..], out),
     }
@@ -44,8 +41,7 @@ pub fn list(input: &[u8], out: &mut [u8]) -> Answer
     if 32768 < input.len() {
         return Err(Refusal::OverLimit);
     }
-    let found = shape::text_end(input);
-    match found {
+    match shape::text_end(input) {
         None => Err(Refusal::NotOfTheForm(0)),
         Some(n) => list_rest(&input[..n], &input[n..], out),
     }

@@ -1,24 +1,15 @@
 // The shape of an input: two model texts, the way's line, the run's line.
 ghost use Rattle.std.specs.Prelude.{◌≡◌};
 ghost use Rattle.listing.specs.Shape.{way_in, is_run};
-ghost use Rattle.listing.specs.inner.Finding.{LineEnd, Looks, TextEnd, OnlyRun, EndingAt};
+ghost use Rattle.listing.specs.inner.Finding.{LineEnd, TextEnd, OnlyRun, EndingAt};
 
 use rule::way::Way;
-use shims::WayRead;
-
-// What the first line says of a text: it ends there, it goes on after it, or it never ends.
-#[derive(Drop)]
-enum Looked {
-    End(usize),
-    More(usize),
-    Nothing,
-}
 
 // What stands after the two texts: a way and a stream, which ends before the last byte.
 #[derive(Drop)]
-pub(crate) enum Tail {
-    Of { way: Way, stream: usize },
-    Other,
+pub(crate) struct Tail {
+    pub way: Way,
+    pub stream: usize,
 }
 
 // The end of the first line, past its line feed.
@@ -33,34 +24,16 @@ fn line_end(text: &[u8]) -> Option<usize>
     }
 }
 
-// The first line: whether the text ends with it.
-fn look(text: &[u8]) -> Looked
-    ensures { Looks text.now result }
-{
-    let line = line_end(text);
-    match line {
-        None => Looked::Nothing,
-        Some(n) => {
-            if ground::same(&text[..n], b"end\n") {
-                Looked::End(n)
-            } else {
-                Looked::More(n)
-            }
-        }
-    }
-}
-
-// The end of the text that begins here.
+// The end of the text that begins here, which is that of its first line `end`.
 pub(crate) fn text_end(text: &[u8]) -> Option<usize>
     ensures { TextEnd text.now result }
 {
     let mut at = 0;
-    while at < text.len() {
-        let looked = look(&text[at..]);
-        match looked {
-            Looked::Nothing => return None,
-            Looked::End(n) => return Some(at + n),
-            Looked::More(n) => at += n,
+    while let Some(n) = line_end(&text[at..]) {
+        let line = &text[at..at + n];
+        at += n;
+        if ground::same(line, b"end\n") {
+            return Some(at);
         }
     }
     None
@@ -70,60 +43,39 @@ fn way_in(line: &[u8]) -> Option<Way>
     ensures { result ≡ way_in line.now }
 {
     if ground::same(line, b"way full\n") {
-        return Some(Way::Full);
+        Some(Way::Full)
+    } else if ground::same(line, b"way sparing\n") {
+        Some(Way::Sparing)
+    } else {
+        None
     }
-    if ground::same(line, b"way sparing\n") {
-        return Some(Way::Sparing);
-    }
-    None
 }
 
 fn is_run(line: &[u8]) -> bool
     ensures { result ≡ is_run line.now }
 {
-    if line.len() < 5 {
-        return false;
-    }
-    if ground::same(&line[..4], b"run ") {
-        return line[line.len() - 1] == b'\n';
-    }
-    false
+    5 <= line.len() && line.starts_with(b"run ") && line.ends_with(b"\n")
 }
 
 // Whether the run's line is all that is left.
 fn only_run(rest: &[u8]) -> bool
     ensures { OnlyRun rest.now result }
 {
-    let line = line_end(rest);
-    match line {
+    match line_end(rest) {
         None => false,
-        Some(n) => {
-            if n == rest.len() {
-                return is_run(rest);
-            }
-            false
-        }
+        Some(n) => { n == rest.len() && is_run(rest) }
     }
 }
 
 // What stands after the two texts.
-pub(crate) fn tail_of(text: &[u8]) -> Tail
+pub(crate) fn tail_of(text: &[u8]) -> Option<Tail>
     ensures { EndingAt text.now result }
 {
-    let line = line_end(text);
-    match line {
-        None => Tail::Other,
-        Some(n) => {
-            let read = way_in(&text[..n]);
-            match read {
-                None => Tail::Other,
-                Some(way) => {
-                    if only_run(&text[n..]) {
-                        return Tail::Of { way, stream: n + 4 };
-                    }
-                    Tail::Other
-                }
-            }
-        }
+    let n = line_end(text)?;
+    let way = way_in(&text[..n])?;
+    if only_run(&text[n..]) {
+        Some(Tail { way, stream: n + 4 })
+    } else {
+        None
     }
 }

@@ -1,7 +1,7 @@
 // The direct run: two model texts, a way, a stream and a buffer.
 #![tactic(auto)]
 
-ghost use Rattle.std.specs.Prelude.{◌+◌, ◌≤◌, ◌<◌, ◌≡◌, length};
+ghost use Rattle.std.specs.Prelude.{◌+◌, ◌≤◌, ◌<◌, ◌≡◌, ◌==◌, length};
 ghost use Rattle.answers.specs.Given.{Delivers};
 ghost use Rattle.operations.specs.Operation.{byte_is, is_fence, fence_bytes};
 ghost use Rattle.rule.specs.Sides.{target_of};
@@ -33,25 +33,17 @@ struct Progress {
 }
 
 // How many of these bytes are fences.
+#[tactic(auto, using(crate::proofs::Counting::fences_counted))]
 fn fences_in(bytes: &[u8]) -> usize
     ensures { result ≡ fence_bytes bytes.now }
 {
-    let mut n = 0;
-    let mut i = 0;
-    while i < bytes.len() {
-        n = n + one_if_fence(bytes[i]);
-        i += 1;
-    }
-    n
+    bytes.iter().filter(|byte| is_fence(**byte)).count()
 }
 
-fn one_if_fence(byte: u8) -> usize
-    ensures { (result ≡ is_fence (byte_is byte)) × (result ≤ 1) }
+fn is_fence(byte: u8) -> bool
+    ensures { result ≡ (is_fence (byte_is byte) == 1) }
 {
-    match operations::read_byte(byte) {
-        Some(Operation::Fence(_)) => 1,
-        _ => 0,
-    }
+    matches!(operations::read_byte(byte), Some(Operation::Fence(_)))
 }
 
 // What an access does, at its index.
@@ -133,14 +125,11 @@ fn run_stream<'a>(
 {
     let mut situation = Situation::FRESH;
     let mut written = 0;
-    let mut at = 0;
-    while at < stream.len() {
-        let byte = stream[at];
+    for (at, &byte) in stream.iter().enumerate() {
         let step = advance(shim, fences, targets, situation, at, byte)?;
         let next = lay(step, byte, written, buffer);
         situation = next.situation;
         written = next.written;
-        at += 1;
     }
     Ok(written)
 }
@@ -171,12 +160,8 @@ pub fn run_models(models: Models, stream: &[u8], out: &mut [u8]) -> Answer
         return Err(Refusal::OverLimit);
     }
     let shim = shims::shim_between(models);
-    let upstream = models.upstream;
-    let ups = upstream.tables;
-    let fences = shims::fences_of(&ups, upstream.fences);
-    let target = models.target;
-    let offers = target.tables;
-    let targets = shims::fences_of(&offers, target.fences);
+    let fences = shims::fences_of(&models.upstream.tables, models.upstream.fences);
+    let targets = shims::fences_of(&models.target.tables, models.target.fences);
     run_within(shim, fences, targets, stream, out)
 }
 

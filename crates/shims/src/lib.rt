@@ -36,26 +36,17 @@ pub fn way_of(number: u64) -> Option<Way>
 pub fn fences_of(tables: &[u64], count: usize) -> &[u64]
     ensures { result.now ≡ take count tables.now }
 {
-    if count <= tables.len() {
-        &tables[..count]
-    } else {
-        tables
-    }
+    &tables[..count.min(tables.len())]
 }
 
 // The way and the two defaults.
 pub fn shim_between(models: Models) -> Shim
     ensures { result ≡ shim_between models }
 {
-    let way = models.way;
-    let up = models.upstream;
-    let on = models.target;
-    let upstream = up.ppo;
-    let target = on.ppo;
     Shim {
-        way,
-        upstream,
-        target,
+        way: models.way,
+        upstream: models.upstream.ppo,
+        target: models.target.ppo,
     }
 }
 

@@ -7,16 +7,8 @@ use answers::{Answer, Refusal};
 
 fn show_refusal(why: Refusal) {
     let mut line = [0u8; 53];
-    let answer = listed::refusal_line(why, &mut line);
-    match answer {
-        Answer::Done {
-            written,
-            fences: _,
-            state: _,
-        } => {
-            io::write_all(1, &line[..written]);
-        }
-        Err(_) => {}
+    if let Ok(done) = listed::refusal_line(why, &mut line) {
+        io::write_all(1, &line[..done.written]);
     }
 }
 
@@ -26,12 +18,8 @@ pub fn show(input: &[u8]) -> Answer
     let mut out = [0u8; 73728];
     let answer = listing::list(input, &mut out);
     match answer {
-        Answer::Done {
-            written,
-            fences: _,
-            state: _,
-        } => {
-            io::write_all(1, &out[..written]);
+        Ok(done) => {
+            io::write_all(1, &out[..done.written]);
         }
         Err(why) => show_refusal(why),
     }

@@ -1,43 +1,20 @@
 use Prim.Native.Nat.{ℕ, ◌-◌}
-use mathlib.Core.Path.{◌≡◌, sym, ap, ◌∙◌}
-use mathlib.Core.List.{List}
+use mathlib.Core.Path.{◌≡◌, ap, ◌∙◌}
+use mathlib.Core.List.{List, ◌++◌}
 use native.Mathlib.Omega.{arith}
-use borrow.Author.Tests.{not-true, not-false}
-use lib.ListN.{get_or, drop, set, length-drop}
-use lib.Seq.{get_or-drop}
-use Rattle.texts.proofs.Steps.{run_not, run_full, run_more, filled_more}
-use Rattle.drawing_label.proofs.Fields.{field_done}
+use borrow.Author.Rules.{rules}
+use lib.ListN.{length, take, drop, replicate, length-drop}
+use lib.Seq.{take_all}
+use Rattle.drawing_label.specs.Label.{field, name_in}
+use Rattle.drawing_label.proofs.Fields.{field_counted}
 use Rattle.drawing_label.proofs.name_field.Goals as goal
 
-pub returns-then-not-is_name_byte : goal.returns-then-not-is_name_byte
-returns-then-not-is_name_byte c =
-    let other = sym c.is_name_byte.ensures ∙ not-true _ c.if-not-is_name_byte.true-raw in
-    let l = c.loop-n in
-    let a = c.args in
-    l.invariant.4 ∙ field_done (drop a.at a.text.now) l.n l.invariant.2 (run_not _ _ _ _ _ l.invariant.3 c.if-text-here.false other)
-
-pub loop-n-preserved : goal.loop-n-preserved
-loop-n-preserved c =
-    let one = sym c.is_name_byte.ensures ∙ not-false _ c.if-not-is_name_byte.false-raw in
-    let l = c.loop-n in
-    let a = c.args in
-    let t : List ℕ = a.text.now in
-    let s : List ℕ = drop a.at t in
-    let here = l.invariant.1 in
-    let long = length-drop a.at t in
-    let stands : get_or t l.here 0 ≡ get_or s l.n 0 = ap (λ (i : ℕ). get_or t i 0) here ∙ sym (get_or-drop a.at t l.n 0) in (
-      omega arith,
-      omega arith,
-      omega (arith, long),
-      l.invariant.3 ∙ run_more t l.here l.n c.loop-n-test.true c.if-text-here.false one,
-      ap (λ (b : ℕ). set l.bytes l.n b) stands
-          ∙ ap (λ (x : List ℕ). set x l.n (get_or s l.n 0)) l.invariant.4
-          ∙ filled_more s l.n (omega (arith, long)) (omega arith),
-    )
-
-pub returns : goal.returns
-returns c =
-    let l = c.loop-n in
-    let a = c.args in
-    let t : List ℕ = a.text.now in
-    l.invariant.4 ∙ field_done (drop a.at t) l.n l.invariant.2 (run_full t l.here _ _ (16 - l.n) l.invariant.3 (omega arith))
+pub returns-in-Some : goal.returns-in-Some
+returns-in-Some c =
+    let t : List ℕ = c.args.text.now in
+    let at : ℕ = c.args.at in
+    let s : List ℕ = c.in-Some.rest.now in
+    let n : ℕ = c.name_length-n.result in
+    let copied : c.copy_from_slice.new.self ≡ take n s = search rules in
+    let here : s ≡ drop at t = c.in-Some.ensures.lookup.0.2 ∙ take_all (length t - at) (drop at t) (omega (arith, length-drop at t)) in
+    ap (λ (x : List ℕ). x ++ drop n (replicate 16 0)) copied ∙ field_counted s n c.name_length-n.ensures.count ∙ ap (λ (x : List ℕ). field (name_in x)) here

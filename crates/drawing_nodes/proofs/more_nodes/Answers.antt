@@ -6,7 +6,7 @@ use native.Mathlib.Omega.{arith}
 use lib.ListN.{get_or}
 use Rattle.texts.specs.Telling.{Word, Taken, took, stopped, Finds}
 use Rattle.drawing.specs.Drawing.{node_line}
-use Rattle.drawing_nodes.specs.Nodes.{NodesFrom}
+use Rattle.drawing_nodes.specs.Nodes.{NodesFrom, NodesEnd, nodes_taken}
 use Rattle.drawing_label.proofs.Words.{word_found, word_stuck}
 use Rattle.drawing_nodes.proofs.NodeLines.{node_word, end_found, nodes_over, nodes_more, nodes_stop, no_more}
 use Rattle.drawing_nodes.proofs.more_nodes.Goals as goal
@@ -54,4 +54,6 @@ pub returns : goal.returns
 returns c =
     let l = c.loop-number in
     let t = c.args.text.now in
-    l.invariant.2 _ (no_more t l.here l.number (255 - l.number) (omega arith) c.nodes_end.ensures)
+    let last : 255 ≡ l.number = omega arith in
+    let end = subst (λ (n : ℕ). Finds (NodesEnd n) t l.here (nodes_taken c.nodes_end.result)) last c.nodes_end.ensures in
+    l.invariant.2 _ (no_more t l.here l.number (255 - l.number) (omega arith) end)

@@ -7,6 +7,3 @@ use Rattle.drawing_nodes.proofs.more_nodes.Given as goal
 abbrev pub invariant-loop-number : goal.invariant-loop-number
 invariant-loop-number l =
     (1 ≤ l.number) × (l.number ≤ 255) × ((r : Taken ℕ) → Finds (NodesFrom (255 - l.number) l.number) l.text l.here r → Finds (NodesFrom 254 1) l.text l.at r)
-
-abbrev pub decreases-loop-number : goal.decreases-loop-number
-decreases-loop-number l = 255 - l.number

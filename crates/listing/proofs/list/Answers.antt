@@ -11,11 +11,11 @@ returns-then-input-gt32768 c = input_over c.args.input.now c.args.out.now c.if-i
 pub returns-in-None : goal.returns-in-None
 returns-in-None c =
     let a = c.args in
-    let no_text = subst (TextEnd a.input.now) c.in-None.is c.text_end-found.ensures in
+    let no_text = subst (TextEnd a.input.now) c.in-None.is c.text_end.ensures in
     input_within c.if-input-gt32768.false (shape_none a.out.now (ap with_upstream no_text))
 
 pub returns-in-Some : goal.returns-in-Some
 returns-in-Some c =
     let a = c.args in
-    let found = subst (TextEnd a.input.now) c.in-Some.is c.text_end-found.ensures in
+    let found = subst (TextEnd a.input.now) c.in-Some.is c.text_end.ensures in
     input_within c.if-input-gt32768.false (shape_as (upstream_found a.input.now found) c.list_rest.ensures)

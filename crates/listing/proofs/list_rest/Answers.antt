@@ -8,5 +8,5 @@ use Rattle.listing.proofs.list_rest.Goals as goal
 pub returns-in-None : goal.returns-in-None
 returns-in-None c =
     let a = c.args in
-    let no_text = subst (TextEnd a.rest.now) c.in-None.is c.text_end-found.ensures in
+    let no_text = subst (TextEnd a.rest.now) c.in-None.is c.text_end.ensures in
     shape_none a.out.now (ap (with_target a.upstream.now) no_text)

@@ -5,14 +5,14 @@ use Rattle.listing.specs.inner.Finding.{EndingAt}
 use Rattle.listing.proofs.Stages.{shape_some, shape_none}
 use Rattle.listing.proofs.list_tail.Goals as goal
 
-pub returns-in-Other : goal.returns-in-Other
-returns-in-Other c =
+pub returns-in-None : goal.returns-in-None
+returns-in-None c =
     let a = c.args in
-    let none = subst (EndingAt a.tail.now) c.in-Other.is c.tail_of-found.ensures in
+    let none = subst (EndingAt a.tail.now) c.in-None.is c.tail_of.ensures in
     shape_none a.out.now (ap (with_ending a.upstream.now a.target.now) none)
 
-pub returns-in-Of : goal.returns-in-Of
-returns-in-Of c =
+pub returns-in-Some : goal.returns-in-Some
+returns-in-Some c =
     let a = c.args in
-    let whole = (subst (EndingAt a.tail.now) c.in-Of.is c.tail_of-found.ensures).whole in
+    let whole = (subst (EndingAt a.tail.now) c.in-Some.is c.tail_of.ensures).whole in
     shape_some (ap (with_ending a.upstream.now a.target.now) whole) c.list_parts.ensures

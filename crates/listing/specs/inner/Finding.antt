@@ -1,7 +1,6 @@
 -- How the parts of an input are found, by places.
 use Rattle.std.specs.Prelude.{ℕ, ◌-◌, ◌<◌, ◌≤◌, ◌≡◌, List, [], ◌∷◌, Bool, true, false, length, take, drop, Option, Some, None}
 use Rattle.rule.specs.declared.way.Way.{Way}
-use Rattle.listing.specs.declared.shape.Looked.{Looked}
 use Rattle.listing.specs.declared.shape.Tail.{Tail}
 use Rattle.listing.specs.Shape.{lines, joined, through, is_run, ending_of}
 
@@ -32,11 +31,6 @@ pub record GoesOn (t : List ℕ) (n : ℕ) : Type 0 where
   pub inside : n ≤ length t
   pub more : through (lines t) ≡ joined (take n t) (through (lines (drop n t)))
 
-abbrev pub Looks : List ℕ → Looked → Type 0
-Looks t (Looked.End n) = TextOf t n
-Looks t (Looked.More n) = GoesOn t n
-Looks t Looked.Nothing = through (lines t) ≡ None
-
 abbrev pub TextEnd : List ℕ → Option ℕ → Type 0
 TextEnd t (Some n) = TextOf t n
 TextEnd t None = through (lines t) ≡ None
@@ -46,9 +40,9 @@ pub record EndingOf (t : List ℕ) (way : Way) (at : ℕ) : Type 0 where
   pub inside : at < length t
   pub whole : ending_of (lines t) ≡ Some (record { way = way; stream = take (length t - 1 - at) (drop at t) })
 
-abbrev pub EndingAt : List ℕ → Tail → Type 0
-EndingAt t (Tail.Of way at) = EndingOf t way at
-EndingAt t Tail.Other = ending_of (lines t) ≡ None
+abbrev pub EndingAt : List ℕ → Option Tail → Type 0
+EndingAt t (Some tail) = EndingOf t tail.way tail.stream
+EndingAt t None = ending_of (lines t) ≡ None
 
 -- the run's line is all that is left
 pub record RunOf (t : List ℕ) : Type 0 where

@@ -1,12 +1,7 @@
 -- `run_stream` meets its contract: at each turn what is laid and what is left to run are the whole run. Assumes nothing.
-use Prim.Native.Nat.{◌-◌}
-use lib.ListN.{length}
 use Rattle.runs.proofs.Running.{Running}
 use Rattle.runs.proofs.run_stream.Given as goal
 
 abbrev pub invariant-loop-at : goal.invariant-loop-at
 invariant-loop-at l =
     Running l.shim l.fences l.targets l.stream l.situation l.written l.at l.buffer
-
-abbrev pub decreases-loop-at : goal.decreases-loop-at
-decreases-loop-at l = length l.stream - l.at

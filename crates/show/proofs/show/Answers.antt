@@ -8,10 +8,10 @@ use Rattle.show.proofs.show.Goals as goal
 
 pub slice_bounds-out-end : goal.slice_bounds-out-end
 slice_bounds-out-end c =
-    subst (λ (n : ℕ). c.in-Done.written ≤ n) (sym c.list-answer.auto.out)
-    (listing_within (replicate 73728 0) c.list-answer.ensures c.in-Done.is)
+    subst (λ (n : ℕ). c.in-Ok.done.written ≤ n) (sym c.list-answer.auto.out)
+    (listing_within (replicate 73728 0) c.list-answer.ensures c.in-Ok.is)
 
 pub slice_bounds-write_all-end : goal.slice_bounds-write_all-end
 slice_bounds-write_all-end c =
-    sym (length-take-le _ c.list-answer.new.out (subst (λ (n : ℕ). c.in-Done.written ≤ n) (sym c.list-answer.auto.out)
-    (listing_within (replicate 73728 0) c.list-answer.ensures c.in-Done.is)))
+    sym (length-take-le _ c.list-answer.new.out (subst (λ (n : ℕ). c.in-Ok.done.written ≤ n) (sym c.list-answer.auto.out)
+    (listing_within (replicate 73728 0) c.list-answer.ensures c.in-Ok.is)))

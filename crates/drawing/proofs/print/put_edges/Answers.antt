@@ -1,4 +1,3 @@
-use borrow.Author.Rules.{rules}
 use Rattle.printing.proofs.Turns.{put_no_turn, put_one_more}
 use Rattle.drawing.specs.Drawing.{state_edges}
 use Rattle.drawing.proofs.print.put_edges.Goals as goal
@@ -6,10 +5,10 @@ use Rattle.drawing.proofs.print.put_edges.Goals as goal
 pub loop-state-init : goal.loop-state-init
 loop-state-init c =
     let a = c.args in
-    (search rules, put_no_turn (state_edges a.letters a.rows.now))
+    put_no_turn (state_edges a.letters a.rows.now)
 
 pub loop-state-preserved : goal.loop-state-preserved
 loop-state-preserved c =
     let l = c.loop-state in
     let a = c.args in
-    (search rules, put_one_more (state_edges a.letters a.rows.now) l.state l.invariant.1 c.put_state-here.ensures)
+    put_one_more (state_edges a.letters a.rows.now) l.state l.invariant c.put_state-here.ensures

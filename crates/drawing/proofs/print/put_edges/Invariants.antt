@@ -1,5 +1,4 @@
 -- `put_edges` meets its contract: after so many states their edges stand there. Assumes nothing.
-use Prim.Native.Nat.{◌-◌, ◌≤◌}
 use Rattle.printing.specs.Putting.{Put}
 use Rattle.printing.specs.Turns.{in_turn}
 use Rattle.drawing.specs.Drawing.{state_edges}
@@ -7,7 +6,4 @@ use Rattle.drawing.proofs.print.put_edges.Given as goal
 
 abbrev pub invariant-loop-state : goal.invariant-loop-state
 invariant-loop-state l =
-    (l.state ≤ l.states) × Put l.initial.buffer l.buffer l.at l.here (in_turn (state_edges l.letters l.rows) l.state)
-
-abbrev pub decreases-loop-state : goal.decreases-loop-state
-decreases-loop-state l = l.states - l.state
+    Put l.initial.buffer l.buffer l.at l.here (in_turn (state_edges l.letters l.rows) l.state)

@@ -7,6 +7,6 @@ pub returns-then-word-eq254 : goal.returns-then-word-eq254
 returns-then-word-eq254 c =
     put_is (leads_refused _ c.if-word-eq254.true) (prints_put c.put.ensures)
 
-pub returns : goal.returns
-returns c =
+pub returns-else-word-eq254 : goal.returns-else-word-eq254
+returns-else-word-eq254 c =
     put_is (leads_on _ c.if-word-eq254.false) (prints_put c.put_decimal.ensures)

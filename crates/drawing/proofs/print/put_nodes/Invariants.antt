@@ -1,12 +1,8 @@
 -- `put_nodes` meets its contract: after so many states their lines stand there. Assumes nothing.
-use Prim.Native.Nat.{◌-◌, ◌≤◌}
 use Rattle.printing.specs.Putting.{Put}
 use Rattle.printing.specs.Turns.{in_turn}
 use Rattle.drawing.specs.Drawing.{node_line}
 use Rattle.drawing.proofs.print.put_nodes.Given as goal
 
 abbrev pub invariant-loop-state : goal.invariant-loop-state
-invariant-loop-state l = (l.state ≤ l.states) × Put l.initial.buffer l.buffer l.at l.here (in_turn node_line l.state)
-
-abbrev pub decreases-loop-state : goal.decreases-loop-state
-decreases-loop-state l = l.states - l.state
+invariant-loop-state l = Put l.initial.buffer l.buffer l.at l.here (in_turn node_line l.state)

@@ -1,5 +1,5 @@
 -- `put_state` meets its contract: after so many letters their edges stand there. Assumes nothing.
-use Prim.Native.Nat.{ℕ, ◌-◌, ◌≤◌}
+use Prim.Native.Nat.{ℕ}
 use mathlib.Core.List.{List}
 use Rattle.printing.specs.Putting.{Put}
 use Rattle.printing.specs.Turns.{in_turn}
@@ -13,7 +13,4 @@ edges rows state letter = edge_line state letter (word rows state letter)
 
 abbrev pub invariant-loop-letter : goal.invariant-loop-letter
 invariant-loop-letter l =
-    (l.letter ≤ l.letters) × Put l.initial.buffer l.buffer l.at l.here (in_turn (edges l.rows l.state) l.letter)
-
-abbrev pub decreases-loop-letter : goal.decreases-loop-letter
-decreases-loop-letter l = l.letters - l.letter
+    Put l.initial.buffer l.buffer l.at l.here (in_turn (edges l.rows l.state) l.letter)

@@ -7,6 +7,6 @@ pub returns-then-way-eq0 : goal.returns-then-way-eq0
 returns-then-way-eq0 c =
     put_is (sparing_word _ c.if-way-eq0.true) (prints_put c.put.ensures)
 
-pub returns : goal.returns
-returns c =
-    put_is (full_word _ c.if-way-eq0.false) (prints_put c.put-2.ensures)
+pub returns-else-way-eq0 : goal.returns-else-way-eq0
+returns-else-way-eq0 c =
+    put_is (full_word _ c.if-way-eq0.false) (prints_put c.put-else-way-eq0.ensures)

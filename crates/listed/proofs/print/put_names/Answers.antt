@@ -5,7 +5,7 @@ use Rattle.listed.proofs.print.put_names.Goals as goal
 pub returns : goal.returns
 returns c =
     put_then
-    (prints_put c.put_name-first_end.ensures)
+    (prints_put c.put_name-upstream_end.ensures)
     (put_then
-    (prints_put c.put-second_at.ensures)
-    (put_then (prints_put c.put_name-second_end.ensures) (put_then (prints_put c.put-way_at.ensures) c.put_way.ensures)))
+    (prints_put c.put-target_at.ensures)
+    (put_then (prints_put c.put_name-target_end.ensures) (put_then (prints_put c.put-way_at.ensures) c.put_way.ensures)))

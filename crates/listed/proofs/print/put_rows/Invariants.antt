@@ -1,5 +1,5 @@
 -- `put_rows` meets its contract: after so many states their lines stand there. Assumes nothing.
-use Prim.Native.Nat.{ℕ, ◌-◌, ◌≤◌}
+use Prim.Native.Nat.{ℕ}
 use mathlib.Core.List.{List}
 use Rattle.printing.specs.Putting.{Put}
 use Rattle.machine.specs.Rows.{answer_at}
@@ -12,7 +12,4 @@ states rows letters state = state_lines state (answer_at rows state) letters
 
 abbrev pub invariant-loop-state : goal.invariant-loop-state
 invariant-loop-state l =
-    (l.state ≤ l.states) × Put l.initial.buffer l.buffer l.at l.here (row_lines (answer_at l.rows) l.letters l.state)
-
-abbrev pub decreases-loop-state : goal.decreases-loop-state
-decreases-loop-state l = l.states - l.state
+    Put l.initial.buffer l.buffer l.at l.here (row_lines (answer_at l.rows) l.letters l.state)

@@ -1,6 +1,5 @@
 use Prim.Native.Nat.{ℕ}
 use mathlib.Core.List.{List}
-use borrow.Author.Rules.{rules}
 use Rattle.printing.proofs.Turns.{put_no_turn, put_one_more}
 use Rattle.machine.specs.Rows.{answer_at}
 use Rattle.listed.specs.Printed.{step_line}
@@ -13,10 +12,10 @@ steps state rows letter = step_line state letter (answer_at rows state letter)
 pub loop-letter-init : goal.loop-letter-init
 loop-letter-init c =
     let a = c.args in
-    (search rules, put_no_turn (steps a.state a.rows.now))
+    put_no_turn (steps a.state a.rows.now)
 
 pub loop-letter-preserved : goal.loop-letter-preserved
 loop-letter-preserved c =
     let l = c.loop-letter in
     let a = c.args in
-    (search rules, put_one_more (steps a.state a.rows.now) l.letter l.invariant.1 c.put_step-here.ensures)
+    put_one_more (steps a.state a.rows.now) l.letter l.invariant c.put_step-here.ensures

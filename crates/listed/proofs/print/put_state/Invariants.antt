@@ -1,5 +1,4 @@
 -- `put_state` meets its contract: after so many letters their lines stand there. Assumes nothing.
-use Prim.Native.Nat.{◌-◌, ◌≤◌}
 use Rattle.printing.specs.Putting.{Put}
 use Rattle.machine.specs.Rows.{answer_at}
 use Rattle.listed.specs.Printed.{state_lines}
@@ -7,7 +6,4 @@ use Rattle.listed.proofs.print.put_state.Given as goal
 
 abbrev pub invariant-loop-letter : goal.invariant-loop-letter
 invariant-loop-letter l =
-    (l.letter ≤ l.letters) × Put l.initial.buffer l.buffer l.at l.here (state_lines l.state (answer_at l.rows l.state) l.letter)
-
-abbrev pub decreases-loop-letter : goal.decreases-loop-letter
-decreases-loop-letter l = l.letters - l.letter
+    Put l.initial.buffer l.buffer l.at l.here (state_lines l.state (answer_at l.rows l.state) l.letter)

@@ -9,5 +9,5 @@ returns c =
     let a = c.args in
     put_is
     (step_text a.state a.letter a.word _ _ _ c.letter_byte.ensures (c.fence_mark.ensures ∙ mark_word a.word)
-    c.next_of-next.ensures)
+    c.next_of.ensures)
     (put_then (prints_put c.put_decimal-middle_at.ensures) (put_then (prints_put c.put-next_at.ensures) c.put_number_line.ensures))

@@ -7,5 +7,5 @@ use Rattle.listing.proofs.shape.tail_of.Goals as goal
 pub returns-then-only_run : goal.returns-then-only_run
 returns-then-only_run c =
     let t = c.args.text.now in
-    ending_is (subst (LineEnd t) c.in-Some.is c.line_end-line.ensures) (sym c.in-Is.is ∙ c.way_in-read.ensures)
+    ending_is (subst (LineEnd t) c.in_ok-n.was c.line_end.ensures) (sym c.in_ok-way.was ∙ c.way_in.ensures)
     (subst (OnlyRun _) c.if-only_run.true c.only_run.ensures)
