@@ -86,7 +86,7 @@ fn with_digit(sum: u64, byte: u8) -> u64
     ensures { result ≡ with_digit sum byte }
 {
     if sum <= 1844674407370955161 {
-        std::num::wrapping_add_u64(sum * 10, ground::wide(byte) as u64 % 16)
+        (sum * 10).wrapping_add(u64::from(byte) % 16)
     } else {
         sum
     }

@@ -9,7 +9,8 @@ use Rattle.std.specs.Borrow.{Bor}
 use Rattle.models.specs.Told.{filled}
 use Rattle.built_ins.specs.inner.Numbers.{name_from, name_bytes}
 use Rattle.built_ins.proofs.numbers.built_name.Goals as goal
-use Rattle.built_ins.proofs.numbers.built_name.Goals.{in-0, in-1, in-2, in-3, in-4, in-5, in-6, in-7, in-8, in-9, in-10, in-11, in-12, in-13, in-14, in_default}
+use Rattle.built_ins.proofs.numbers.built_name.Goals.{in-0, in-1, in-2, in-3, in-4, in-5, in-6, in-7}
+use Rattle.built_ins.proofs.numbers.built_name.Goals.{in-8, in-9, in-10, in-11, in-12, in-13, in-14, in_default}
 
 named : {name text : Bor (List ℕ)} {i k : ℕ} → name ≡ text → i ≡ k → filled (take 16 text.now) ≡ name_from k → filled (take 16 name.now) ≡ name_from i
 named n e is = ap (λ (b : Bor (List ℕ)). filled (take 16 b.now)) n ∙ is ∙ ap name_from (sym e)

@@ -7,4 +7,5 @@ use Rattle.models.proofs.reader.lines.Given as goal
 abbrev pub invariant-loop-k : goal.invariant-loop-k
 invariant-loop-k l =
     (l.model.fences ≡ l.k)
-    × (lines_from 16 l.text (record { model = l.initial.model; repeat = l.initial.repeat }) l.at ≡ lines_from (16 - l.k) l.text (record { model = l.model; repeat = l.repeat }) l.here)
+    × (lines_from 16 l.text (record { model = l.initial.model; repeat = l.initial.repeat }) l.at
+    ≡ lines_from (16 - l.k) l.text (record { model = l.model; repeat = l.repeat }) l.here)
