@@ -1,20 +1,19 @@
 -- The constant tables hold document 01's built-in models: one computed test over all rows. Assumes nothing.
-use Prim.Native.Nat.{ℕ, zero, suc, ◌*◌, ◌-◌, ◌%◌, ◌<◌}
+use Prim.Native.Nat.{ℕ, zero, suc, ◌%◌, ◌<◌}
 use mathlib.Core.Path.{◌≡◌, refl, sym, ap, ◌∙◌}
-use mathlib.Core.List.{List, [], ◌∷◌, ◌++◌, map, append-nil}
+use mathlib.Core.List.{List, [], ◌∷◌, map}
 use mathlib.Core.Bool.{Bool, true, false, cond}
 use native.Mathlib.Omega.{arith}
 use native.Mathlib.Nat.{le_of_suc-le-suc}
 use borrow.Author.Tests.{lt-ltb, le-ltb}
 use lib.Dec.{ltb}
-use lib.ListN.{length, get_or, set, take, drop, replicate, length-drop, get_or-map}
-use lib.Seq.{take_all, length-take-le}
+use lib.ListN.{get_or, set, get_or-map}
 use Rattle.answers.specs.declared.Refusal.{Refusal}
 use Rattle.tables.specs.Table.{table}
 use Rattle.models.specs.declared.model.Name.{Name}
 use Rattle.models.specs.declared.model.Model.{Model}
 use Rattle.models.specs.Reading.{table_in}
-use Rattle.models.specs.Told.{filled, held, bare, accepting, refusing}
+use Rattle.models.specs.Told.{held, bare, accepting, refusing}
 use Rattle.built_ins.specs.inner.Numbers.{number, name_bytes, model_numbers, name_from, model_from}
 use Rattle.built_ins.specs.BuiltIns.{four_rows, under, none, model, built_ins, built_in, built_in_reading}
 
@@ -41,21 +40,9 @@ row_is n l =
     ∙ ap (λ (ms : List Model). get_or ms n (held (model "" none []))) all_rows
     ∙ get_or-map held built_ins n (model "" none [])
 
--- a name of the table, as a part of it is read
-pub name_at : (k : ℕ) → k < 16 → filled (take 16 (take (256 - k * 16) (drop (k * 16) name_bytes))) ≡ name_from k
-unfolding name_from name_bytes
-name_at k l =
-    let all : take (256 - k * 16) (drop (k * 16) name_bytes) ≡ drop (k * 16) name_bytes =
-    take_all (256 - k * 16) (drop (k * 16) name_bytes) (omega (arith, length-drop (k * 16) name_bytes)) in
-    let place : k * 16 ≡ 16 * k = omega arith in
-    let from : List ℕ = drop (16 * k) name_bytes in
-    let long : length (take 16 from) ≡ 16 = length-take-le 16 from (omega (arith, length-drop (16 * k) name_bytes)) in
-    ap (λ (l : List ℕ). filled (take 16 l)) (all ∙ ap (λ (n : ℕ). drop n name_bytes) place)
-    ∙ ap (λ (l : List ℕ). record { bytes = l }) (ap (λ (n : ℕ). take 16 from ++ replicate (16 - n) 0) long ∙ append-nil _)
-
 -- a bare model with the three fences of a row
 module _ (n : ℕ) (m : Model) (first second third : Name) where
-  pub row_filled : m ≡ bare (name_from (get_or model_numbers (9 * n) 0 % 16)) (record { packed = number n 1 }) → first ≡ name_from (number n 3 % 16)
+  pub row_filled : m ≡ bare (name_from (number n 0 % 16)) (record { packed = number n 1 }) → first ≡ name_from (number n 3 % 16)
       → second ≡ name_from (number n 5 % 16) → third ≡ name_from (number n 7 % 16)
       → ◌≡◌ {A = Model} record {
         ppo = m.ppo;

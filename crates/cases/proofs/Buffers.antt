@@ -1,20 +1,19 @@
 -- Loops over a buffer's bytes: what holds so far, and of one byte more. Assumes nothing.
-use Rattle.std.proofs.Common.{◌≡◌, ℕ, ◌+◌, ◌%◌, ◌<◌, ◌≤◌, Bool, true, false, ◌≢◌, List, length, get_or, take, drop, set, sym, ◌∙◌, subst, not-suc-le-zero, mod-lt, add-one, arith, drop_of_length-le, take_all, drop-cons, get_or-set_other, get_or-set_same, ext_get_or, below_more, eq-eqb, ne_eqb}
+use Rattle.std.proofs.Common.{◌≡◌, ℕ, ◌+◌, ◌%◌, ◌<◌, ◌≤◌, Bool, true, false, ◌≢◌, List, ◌∷◌, length, get_or, take, set, refl, sym, ◌∙◌, subst, not-suc-le-zero, mod-lt, arith, take_all, get_or-set_other, get_or-set_same, ext_get_or, below_more}
+use Rattle.std.specs.Prelude.{◌==◌, ◌&&◌, cond}
 use Rattle.cases.specs.Buffer.{untouched, Repeats}
 
 -- taking more than there is
 pub whole : (n : ℕ) (l : List ℕ) → length l < n → l ≡ take n l
 whole n l h = sym (take_all n l (omega (arith, h)))
 
--- the loop that looks for another byte
-pub untouched_on : (l : List ℕ) (i : ℕ) (all : Bool) → i < length l → get_or l i 0 ≡ 35 → untouched (drop i l) ≡ all → untouched (drop (i + 1) l) ≡ all
-untouched_on l i all h e so = rw (add-one i, sym so, drop-cons l i 0 h, eq-eqb _ _ e)
-
-pub untouched_off : (l : List ℕ) (i : ℕ) (all : Bool) → i < length l → get_or l i 0 ≢ 35 → untouched (drop i l) ≡ all → false ≡ all
-untouched_off l i all h e so = rw (sym so, drop-cons l i 0 h, ne_eqb _ _ e)
-
-pub untouched_end : (l : List ℕ) (i : ℕ) (all : Bool) → length l ≤ i → untouched (drop i l) ≡ all → true ≡ all
-untouched_end l i all h so = rw (sym so, drop_of_length-le l h)
+-- one byte, and those behind it
+pub untouched_step : (b : ℕ) (rest : List ℕ) → untouched (b ∷ rest) ≡ (b == 35 && untouched rest)
+untouched_step b rest = by (b == 35) (untouched rest)
+  where
+    by : (q r : Bool) → cond q r false ≡ (q && r)
+    by true r = refl
+    by false r = refl
 
 -- the loop that fills a buffer
 pub repeats_none : (piece bytes : List ℕ) → Repeats piece bytes 0

@@ -1,3 +1,4 @@
 pub mod Buffer
 pub mod Fields
+pub mod Groups
 pub mod Printed

@@ -1,5 +1,7 @@
 // Cases that stand on standard input, as fields with a bar behind each.
+ghost use Rattle.std.specs.Iterator.{at_most};
 ghost use Rattle.std.specs.Prelude.{◌≡◌, ◌≤◌, length, drop};
+ghost use Rattle.cases.specs.Groups.{GivesGroup};
 ghost use Rattle.cases.specs.Fields.{first_of, others_of, from, number_in, with_digit};
 
 // Where the field behind this one begins.
@@ -18,13 +20,11 @@ fn start(input: &[u8], k: usize) -> usize
     ensures input_value { drop result input.now ≡ from k input.now }
 {
     let mut at = 0;
-    let mut left = k;
-    while 0 < left {
+    for _ in 0..k {
         if at == input.len() {
             return at;
         }
         at = next(input, at);
-        left -= 1;
     }
     at
 }
@@ -46,12 +46,47 @@ pub fn field(input: &[u8], k: usize) -> &[u8]
     &input[at..end]
 }
 
+// Groups of so many fields, of one at least, one behind another. Each comes with all that stands behind it.
+#[derive(Drop)]
+pub struct Groups<'a> {
+    left: &'a [u8],
+    size: usize,
+}
+
+// The groups from a field on.
+pub fn groups_from<'a>(input: &'a [u8], k: usize, size: usize) -> Groups<'a>
+    ensures left { result.left.now ≡ from k input.now }
+    ensures size { result.size ≡ size }
+{
+    Groups {
+        left: rest(input, k),
+        size,
+    }
+}
+
+impl<'a> Iterator for Groups<'a> {
+    type Item = &'a [u8];
+
+    ghost next_gives = { GivesGroup };
+
+    ghost remaining = { λ s. at_most (length s.left.now) };
+
+    fn next(&mut self) -> Option<&'a [u8]> {
+        if self.left.is_empty() {
+            return None;
+        }
+        let group = self.left;
+        self.left = rest(group, self.size.max(1));
+        Some(group)
+    }
+}
+
 // The number with a digit behind it, modulo 2^64, any byte being one of sixteen digits; a number with no room for a digit stays as it is.
 fn with_digit(sum: u64, byte: u8) -> u64
     ensures { result ≡ with_digit sum byte }
 {
     if sum <= 1844674407370955161 {
-        std::num::wrapping_add_u64(sum * 10, ground::wide(byte) as u64 % 16)
+        (sum * 10).wrapping_add(u64::from(byte) % 16)
     } else {
         sum
     }
@@ -61,11 +96,5 @@ fn with_digit(sum: u64, byte: u8) -> u64
 pub fn number(text: &[u8]) -> u64
     ensures { result ≡ number_in 0 text.now }
 {
-    let mut sum: u64 = 0;
-    let mut i = 0;
-    while i < text.len() {
-        sum = with_digit(sum, text[i]);
-        i += 1;
-    }
-    sum
+    text.iter().fold(0, |sum, byte| with_digit(sum, *byte))
 }

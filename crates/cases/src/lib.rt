@@ -20,10 +20,7 @@ use answers::Answer;
 pub fn front(bytes: &[u8], n: usize) -> &[u8]
     ensures { result.now ≡ take n bytes.now }
 {
-    if bytes.len() < n {
-        return bytes;
-    }
-    &bytes[..n]
+    &bytes[..n.min(bytes.len())]
 }
 
 // How much of a buffer a call is given that should have so much room: `&mut buffer[..n]` then needs no proof file.
@@ -31,11 +28,7 @@ pub fn at_most(room: usize, buffer: &[u8]) -> usize
     ensures prefix_len { IsPrefixLen result buffer.now }
     ensures value { result ≡ min room (length buffer.now) }
 {
-    if room < buffer.len() {
-        room
-    } else {
-        buffer.len()
-    }
+    room.min(buffer.len())
 }
 
 // Fills a buffer with a piece, over and over; a piece of nothing leaves it as it is.
@@ -46,25 +39,22 @@ pub fn repeat(piece: &[u8], out: &mut [u8])
     if piece.len() == 0 {
         return;
     }
-    let mut i = 0;
-    while i < out.len() {
-        out[i] = piece[i % piece.len()];
-        i += 1;
+    for (i, byte) in out.iter_mut().enumerate() {
+        *byte = piece[i % piece.len()];
     }
+}
+
+fn behind(bytes: &[u8], at: usize) -> &[u8]
+    ensures { result.now ≡ drop at bytes.now }
+{
+    &bytes[at.min(bytes.len())..]
 }
 
 // Whether every byte from a place on is `#`, of which buffers are full before a call.
 pub fn kept(buffer: &[u8], from: usize) -> bool
     ensures { result ≡ untouched (drop from buffer.now) }
 {
-    let mut i = from;
-    while i < buffer.len() {
-        if buffer[i] != b'#' {
-            return false;
-        }
-        i += 1;
-    }
-    true
+    behind(buffer, from).iter().all(|byte| *byte == b'#')
 }
 
 // A number behind a blank.

@@ -26,10 +26,8 @@ fn word_at(states: usize, state: usize, letter: usize) -> u16 {
 }
 
 fn fill(states: usize, rows: &mut [u16]) {
-    let mut j = 0;
-    while j < rows.len() {
-        rows[j] = word_at(states, j / STRIDE, j % STRIDE);
-        j += 1;
+    for (j, row) in rows.iter_mut().enumerate() {
+        *row = word_at(states, j / STRIDE, j % STRIDE);
     }
 }
 

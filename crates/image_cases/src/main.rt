@@ -11,7 +11,7 @@ mod show;
 mod tries;
 
 use answers::Answer;
-use cases::fields::{field, number};
+use cases::fields::{field, groups_from, number};
 
 // Model texts and the heading.
 const BEFORE: usize = 18;
@@ -50,7 +50,7 @@ fn clear(fields: &[u8], buffer: &mut [u8]) {
 
 // The letter of a command.
 fn letter(text: &[u8]) -> u8 {
-    if 0 < text.len() { text[0] } else { 0 }
+    text.first().copied().unwrap_or(0)
 }
 
 fn follow<'a>(input: &'a [u8], fields: &'a [u8], buffer: &mut [u8]) {
@@ -72,14 +72,8 @@ fn follow<'a>(input: &'a [u8], fields: &'a [u8], buffer: &mut [u8]) {
 }
 
 fn follow_all(input: &[u8], buffer: &mut [u8]) {
-    let mut k = BEFORE;
-    while k < input.len() {
-        let fields = cases::fields::rest(input, k);
-        if fields.len() == 0 {
-            return;
-        }
+    for fields in groups_from(input, BEFORE, 7) {
         follow(input, fields, buffer);
-        k += 7;
     }
 }
 

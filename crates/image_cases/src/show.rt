@@ -54,23 +54,11 @@ fn crc_bit(rest: u32) -> u32 {
 }
 
 fn crc_byte(sum: u32, byte: u8) -> u32 {
-    let mut rest = sum ^ byte as u32;
-    let mut k: usize = 0;
-    while k < 8 {
-        rest = crc_bit(rest);
-        k += 1;
-    }
-    rest
+    (0..8).fold(sum ^ u32::from(byte), |rest, _| crc_bit(rest))
 }
 
 fn crc(bytes: &[u8]) -> u32 {
-    let mut sum: u32 = 4294967295;
-    let mut i = 0;
-    while i < bytes.len() {
-        sum = crc_byte(sum, bytes[i]);
-        i += 1;
-    }
-    sum ^ 4294967295
+    !bytes.iter().fold(u32::MAX, |sum, byte| crc_byte(sum, *byte))
 }
 
 pub(crate) fn print_crc(bytes: &[u8]) {
@@ -89,31 +77,20 @@ pub(crate) fn print_output(output: &[u8]) {
     }
 }
 
-fn print_check(high: u8, low: u8) {
-    io::write_all(1, b" ");
-    io::print_hex(1, high as u64, 2);
-    io::print_hex(1, low as u64, 2);
-}
-
 // The check of each block.
 pub(crate) fn print_checks(image: &[u8]) {
-    let mut at = 511;
-    while at < image.len() {
-        print_check(image[at - 1], image[at]);
-        at += 512;
+    for block in image.chunks_exact(512) {
+        io::write_all(1, b" ");
+        for byte in &block[510..] {
+            io::print_hex(1, u64::from(*byte), 2);
+        }
     }
 }
 
-fn wide(word: u16) -> u64 {
-    word as u64
-}
-
 pub(crate) fn print_words(words: &[u16]) {
-    let mut i = 0;
-    while i < words.len() {
+    for word in words {
         io::write_all(1, b" ");
-        io::print_hex(1, wide(words[i]), 4);
-        i += 1;
+        io::print_hex(1, u64::from(*word), 4);
     }
 }
 

@@ -2,7 +2,7 @@
 // bar behind each field. The cases and the stored output come from `tools/expect-listing-cases`, which asks the model in `host/model`.
 #![tactic(auto)]
 
-use cases::fields::{field, number};
+use cases::fields::{field, groups_from, number};
 
 // An input of so many bytes that begins with the text, is filled up by loads, and ends in a line feed.
 fn show_filled(text: &[u8], size: u64) {
@@ -29,14 +29,8 @@ fn show_case(fields: &[u8]) {
 }
 
 fn show_cases(input: &[u8]) {
-    let mut k = 1;
-    while k < input.len() {
-        let fields = cases::fields::rest(input, k);
-        if fields.len() == 0 {
-            return;
-        }
+    for fields in groups_from(input, 1, 3) {
         show_case(fields);
-        k += 3;
     }
 }
 

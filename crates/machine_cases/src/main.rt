@@ -6,7 +6,7 @@
 #![tactic(auto)]
 
 use answers::Verdict;
-use cases::fields::field;
+use cases::fields::{field, groups_from};
 use machine::machine::{Machine, Outcome};
 use models::model::Model;
 use operations::alphabet;
@@ -59,10 +59,8 @@ fn built_in_pair(way: u64, upstream: u64, target: u64) {
 }
 
 fn built_in_row(way: u64, upstream: u64) {
-    let mut target: u64 = 0;
-    while target < 16 {
+    for target in 0..16 {
         built_in_pair(way, upstream, target);
-        target += 1;
     }
 }
 
@@ -73,10 +71,8 @@ fn built_in_line(way: u64, upstream: u64) {
 }
 
 fn built_ins(way: u64) {
-    let mut upstream: u64 = 0;
-    while upstream < 16 {
+    for upstream in 0..16 {
         built_in_line(way, upstream);
-        upstream += 1;
     }
 }
 
@@ -104,41 +100,28 @@ fn print_word(word: u64) {
 }
 
 fn word_at(rows: &[u16], state: usize, letter: usize) -> u64 {
-    if state < 255 {
-        if letter < STRIDE {
-            let at = state * STRIDE + letter;
-            if at < rows.len() {
-                return wide(rows[at]);
-            }
-        }
+    if 255 <= state || STRIDE <= letter {
+        return 0;
     }
-    0
-}
-
-fn wide(word: u16) -> u64 {
-    word as u64
+    rows.get(state * STRIDE + letter)
+        .map_or(0, |word| u64::from(*word))
 }
 
 fn letters_of(x: Machine) -> usize {
-    let ups = x.ups;
-    if ups < 16 { ACCESSES + ups } else { STRIDE }
+    ACCESSES + x.ups.min(STRIDE - ACCESSES)
 }
 
 fn print_state(rows: &[u16], state: usize, letters: usize) {
-    let mut letter: usize = 0;
-    while letter < letters {
+    for letter in 0..letters {
         io::print_decimal(1, state as u64);
         print_letter(letter);
         print_word(word_at(rows, state, letter));
-        letter += 1;
     }
 }
 
 fn print_states(rows: &[u16], states: usize, letters: usize) {
-    let mut state: usize = 0;
-    while state < states {
+    for state in 0..states {
         print_state(rows, state, letters);
-        state += 1;
     }
 }
 
@@ -188,14 +171,8 @@ fn try_pair(fields: &[u8]) {
 }
 
 fn try_pairs(input: &[u8]) {
-    let mut k = 1;
-    while k < input.len() {
-        let fields = cases::fields::rest(input, k);
-        if fields.len() == 0 {
-            return;
-        }
+    for fields in groups_from(input, 1, 3) {
         try_pair(fields);
-        k += 3;
     }
 }
 

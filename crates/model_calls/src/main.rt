@@ -3,6 +3,7 @@
 #![tactic(auto)]
 
 use answers::Answer;
+use cases::fields::{field, groups_from};
 use comparison::Compared;
 
 fn print_line(answer: Answer) {
@@ -42,10 +43,8 @@ fn try_built_in(number: u64) {
 }
 
 fn try_built_ins() {
-    let mut n: u64 = 0;
-    while n < 17 {
+    for n in 0..17 {
         try_built_in(n);
-        n += 1;
     }
 }
 
@@ -72,19 +71,15 @@ fn compare_built_ins(first: u64, second: u64) {
 }
 
 fn compare_row(first: u64) {
-    let mut second: u64 = 0;
-    while second < 16 {
+    for second in 0..16 {
         compare_built_ins(first, second);
-        second += 1;
     }
     io::write_all(1, b"\n");
 }
 
 fn compare_all() {
-    let mut first: u64 = 0;
-    while first < 16 {
+    for first in 0..16 {
         compare_row(first);
-        first += 1;
     }
 }
 
@@ -102,14 +97,8 @@ fn try_input(text: &[u8]) {
 
 // Behind the heading.
 fn try_inputs(input: &[u8]) {
-    let mut k = 1;
-    while k < input.len() {
-        let rest = cases::fields::rest(input, k);
-        if rest.len() == 0 {
-            return;
-        }
-        try_input(cases::fields::field(rest, 0));
-        k += 1;
+    for fields in groups_from(input, 1, 1) {
+        try_input(field(fields, 0));
     }
 }
 

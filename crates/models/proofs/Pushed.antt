@@ -7,10 +7,9 @@ use mathlib.Core.List.{List, [], ◌∷◌, ◌++◌, map}
 use mathlib.Core.Logic.{◌⊎◌, inl, inr}
 use native.Mathlib.Omega.{arith}
 use native.Mathlib.Decide.{ℕ_discrete}
-use borrow.Author.Tests.{eq-eqb, ne_eqb}
-use lib.Dec.{eqb}
 use lib.ListN.{length, take, get_or, set, replicate, length-append, length-map}
 use lib.Seq.{take-suc, take_at, length-take-le, set-append_seam, append_snoc, get_or-take, take-length}
+use Rattle.std.specs.Prelude.{Option, Some, None}
 use Rattle.answers.specs.declared.Refusal.{Refusal}
 use Rattle.models.specs.declared.model.Model.{Model}
 use Rattle.models.specs.Told.{Reading}
@@ -19,7 +18,7 @@ use Rattle.models.specs.Model.{Fence, Description, FenceFormed, Formed}
 use Rattle.texts.specs.NamePart.{Each, NameFormed}
 use Rattle.models.specs.Told.{filled, padded, held_name, packed_of, held, accepting, refusing}
 use Rattle.models.specs.Told.{no_fence, fence_of, name_of, name_stands, Repeats, EarliestRepeat, Distinct}
-use Rattle.models.specs.inner.Progress.{among, finished}
+use Rattle.models.specs.inner.Progress.{among, repeat_place, end_of, finished}
 use Rattle.texts.proofs.NamePart.{each_at}
 use Rattle.models.proofs.Names.{held_names, among_found, among_none}
 use Rattle.models.proofs.Reread.{pushed}
@@ -84,17 +83,17 @@ module _ (d : Description) where
     first_each (suc k) (f ∷ fs) e = (e.0, first_each k fs e.1)
 
     -- the place that is kept after k fences
-    abbrev Kept : ℕ → ℕ → Type 0
+    abbrev Kept : ℕ → Option ℕ → Type 0
     Kept k r =
-        ((r ≡ 0) × ((j : ℕ) → j < k → Repeats d j → ⊥))
-        ⊎ ((j : ℕ) × (j < k) × EarliestRepeat d j × (r ≡ name_stands d j))
+        ((r ≡ None) × ((j : ℕ) → j < k → Repeats d j → ⊥))
+        ⊎ ((j : ℕ) × (j < k) × EarliestRepeat d j × (r ≡ Some (name_stands d j)))
 
     kept : (k : ℕ) → k ≤ length d.fences → Kept k (pushed d k).repeat
     unfolding pushed
     kept zero l = inl (refl, (λ j lj. absurd (omega arith)))
     kept (suc k) l = by (kept k (omega arith))
       where
-        r : ℕ
+        r : Option ℕ
         r = (pushed d k).repeat
 
         found : Bool
@@ -109,13 +108,13 @@ module _ (d : Description) where
         there : (i : ℕ) → i < k → (get_or (take k d.fences) i no_fence).name ≡ name_of d i
         there i li = ap (λ (f : Fence). f.name) (get_or-take k d.fences i _ li)
 
-        fresh : (q : Bool) → found ≡ q → r ≡ 0 → ((j : ℕ) → j < k → Repeats d j → ⊥) → Kept (suc k) (cond q (name_stands d k) 0)
-        fresh true e z none =
+        fresh : (q : Bool) → found ≡ q → ((j : ℕ) → j < k → Repeats d j → ⊥) → Kept (suc k) (cond q (Some (name_stands d k)) None)
+        fresh true e none =
             let formed = first_each k d.fences h.each in
             let f = among_found (name_of d k) (name_well k l).bytes no_fence (take k d.fences) formed (sym found_is ∙ e) in
             let li : f.0 < k = omega (arith, f.1, long) in
             inr (k, omega arith, record { within = l; repeats = (f.0, li, sym (there f.0 li) ∙ f.2); earliest = none }, refl)
-        fresh false e z none = inl (refl, no_repeat)
+        fresh false e none = inl (refl, no_repeat)
           where
             no_repeat : (j : ℕ) → j < suc k → Repeats d j → ⊥
             no_repeat j lj (i, li, same) = here (ℕ_discrete j k)
@@ -127,14 +126,12 @@ module _ (d : Description) where
                     among_none (name_of d k) (name_well k l).bytes no_fence (take k d.fences) (sym found_is ∙ e)
                     (i, omega (arith, long), there i l' ∙ same ∙ ap (name_of d) e')
 
-        -- whether a place was kept already
-        tested : (q : Bool) → eqb r 0 ≡ q → Kept (suc k) (cond q (cond found (name_stands d k) 0) r)
-            → Kept (suc k) (cond (eqb r 0) (cond found (name_stands d k) 0) r)
-        tested q e = subst (λ (b : Bool). Kept (suc k) (cond b (cond found (name_stands d k) 0) r)) (sym e)
+        next : Option ℕ → Option ℕ
+        next r = repeat_place r (filled (name_of d k)) (take (pushed d k).model.fences (pushed d k).model.names) (name_stands d k)
 
-        by : Kept k r → Kept (suc k) (cond (eqb r 0) (cond found (name_stands d k) 0) r)
-        by (inl (z, none)) = tested true (eq-eqb r 0 z) (fresh found refl z none)
-        by (inr (j, lj, e, is)) = tested false (ne_eqb r 0 (λ z. omega arith)) (inr (j, omega arith, e, is))
+        by : Kept k r → Kept (suc k) (next r)
+        by (inl (z, none)) = subst (λ (q : Option ℕ). Kept (suc k) (next q)) (sym z) (fresh found refl none)
+        by (inr (j, lj, e, is)) = inr (j, omega arith, e, ap next is)
 
     -- after all of them
     all_kept : Kept (length d.fences) (pushed d (length d.fences)).repeat
@@ -157,11 +154,6 @@ module _ (d : Description) where
       p : Progress
       p = pushed d (length d.fences)
 
-      ending : Bool → Reading
-      ending q = cond q (accepting p.model) (refusing (Refusal.FenceNameRepeats p.repeat))
-
       by : Kept h (length d.fences) p.repeat → Ends
-      by (inl (z, none)) = inl (ap ending (eq-eqb p.repeat 0 z) ∙ ap accepting (all_held h), none)
-      by (inr (k, lk, e, is)) =
-          let place = ap (λ (n : ℕ). refusing (Refusal.FenceNameRepeats n)) is in
-          inr (k, e, ap ending (ne_eqb p.repeat 0 (λ z. omega arith)) ∙ place)
+      by (inl (z, none)) = inl (ap (end_of p.model) z ∙ ap accepting (all_held h), none)
+      by (inr (k, lk, e, is)) = inr (k, e, ap (end_of p.model) is)

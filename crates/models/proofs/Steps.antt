@@ -7,7 +7,8 @@ use mathlib.Core.Bool.{Bool, cond}
 use mathlib.Core.List.{List}
 use native.Mathlib.Omega.{arith}
 use borrow.Author.Tests.{eq-eqb, ne_eqb, lt-ltb, le-ltb}
-use lib.ListN.{length, drop, get_or}
+use lib.ListN.{length, take, drop, get_or}
+use Rattle.std.specs.Prelude.{Option}
 use Rattle.ground.specs.Bytes.{bytes}
 use Rattle.ground.proofs.Truths.{differ}
 use Rattle.answers.specs.declared.Refusal.{Refusal}
@@ -19,11 +20,12 @@ use Rattle.texts.proofs.Pattern.{pattern_past}
 use Rattle.texts.proofs.Steps.{name_past}
 use Rattle.models.specs.declared.scan.Line.{Line}
 use Rattle.models.specs.declared.model.Name.{Name}
+use Rattle.models.specs.declared.model.Model.{Model}
 use Rattle.models.specs.Told.{Reading}
 use Rattle.models.specs.declared.reader.Progress.{Progress}
 use Rattle.models.specs.Told.{refusing}
 use Rattle.models.specs.inner.Lines.{table_pattern, then_line, line_end, ppo_at, head_from, fence_line_from, NameEnds}
-use Rattle.models.specs.inner.Progress.{formless, on_line, repeat_of, with_fence}
+use Rattle.models.specs.inner.Progress.{formless, on_line, repeat_place, stored, with_fence}
 use Rattle.models.specs.Reading.{head_at, fence_at, name_in, table_in, fence_from, ended, lines_from, after_head, reading}
 
 -- what the steps of a line have answered decides how the reader goes on
@@ -97,12 +99,15 @@ module _ (t : List ℕ) (p : Progress) (here : ℕ) where
       cond q (on_line (fence_at t here) (λ line. lines_from n t (fence_from t p line) line.next)) (ended t p here))
       (eq-eqb _ _ h)
 
--- what is stored of a fence's line
-pub fence_stored : (t : List ℕ) (p : Progress) (line : Line) {name : Name} {table : Table} {place : ℕ}
-    → name ≡ name_in (drop line.name t) → table ≡ table_in (drop line.table t)
-    → place ≡ repeat_of p name line.name → record { model = (with_fence p name line.name table).model; repeat = place } ≡ fence_from t p line
-fence_stored t p line {name} {table} n b r =
-    ap (λ (k : ℕ). record { model = (with_fence p name line.name table).model; repeat = k }) r
+-- what is stored of the line of the fence k
+pub fence_stored : (t : List ℕ) (p : Progress) (k : ℕ) (line : Line) {name : Name} {table : Table} {place : Option ℕ}
+    → p.model.fences ≡ k → name ≡ name_in (drop line.name t) → table ≡ table_in (drop line.table t)
+    → place ≡ repeat_place p.repeat name (take k p.model.names) line.name
+    → record { model = stored p.model k name table; repeat = place } ≡ fence_from t p line
+fence_stored t p k line {name} {table} count n b r =
+    let m : Model = p.model in
+    let first = r ∙ ap (λ (j : ℕ). repeat_place p.repeat name (take j m.names) line.name) (sym count) in
+    ap₂ (λ (j : ℕ) (q : Option ℕ). record { model = stored m j name table; repeat = q }) (sym count) first
     ∙ ap₂ (λ (x : Name) (y : Table). with_fence p x line.name y) n b
 
 pub reading_over : (t : List ℕ) → 1024 < length t → reading t ≡ refusing Refusal.OverLimit

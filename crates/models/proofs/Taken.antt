@@ -1,27 +1,15 @@
 -- What the reader takes out of a text, byte by byte: a name, a table, whether two names are the same. Assumes nothing.
-use Prim.Native.Nat.{ℕ, suc, ◌+◌, ◌*◌, ◌-◌, ◌/◌, ◌≤◌, ◌<◌}
-use mathlib.Core.Path.{◌≡◌, sym, ap, ap₂, ◌∙◌}
-use mathlib.Core.Bool.{Bool, true, false, ◌||◌}
-use mathlib.Core.List.{List, ◌++◌}
+use Prim.Native.Nat.{ℕ, ◌+◌, ◌*◌, ◌/◌, ◌<◌}
+use mathlib.Core.Path.{◌≡◌, sym, ap, ◌∙◌}
+use mathlib.Core.List.{List}
 use native.Mathlib.Omega.{arith}
-use native.Mathlib.Numerals.{add-one}
 use native.Mathlib.Decide.{ℕ_discrete}
-use lib.ListN.{length, take, drop, get_or, set, replicate, drop_of_length-le}
-use lib.Seq.{length-take-le, drop-cons, get_or-set_same, get_or-set_other}
-use Rattle.ground.specs.Bytes.{same_bytes}
+use lib.ListN.{length, get_or, set}
+use lib.Seq.{get_or-set_same, get_or-set_other}
 use Rattle.tables.specs.Strength.{level_of}
 use Rattle.tables.specs.Table.{place, row_number, column_number, levels_table}
 use Rattle.tables.proofs.Laws.{table_cong, row_below, column_below}
-use Rattle.models.specs.declared.model.Name.{Name}
-use Rattle.models.specs.Told.{filled}
 use Rattle.models.specs.Reading.{table_in}
-use Rattle.models.specs.inner.Progress.{among}
-
--- all bytes of a name
-pub name_done : (s : List ℕ) (i : ℕ) → i ≤ length s → take i s ≡ take 16 s → record { bytes = take i s ++ replicate (16 - i) 0 } ≡ filled (take 16 s)
-name_done s i li e =
-    ap (λ (l : List ℕ). record { bytes = l })
-    (ap₂ (λ (l : List ℕ) (n : ℕ). l ++ replicate (16 - n) 0) e (sym (length-take-le i s li) ∙ ap length e))
 
 -- one element more is stored where f says what each is
 pub stored_more : (l : List ℕ) (i x : ℕ) (f : ℕ → ℕ) → i < length l → x ≡ f i → ((j : ℕ) → j < i → get_or l j 0 ≡ f j)
@@ -40,17 +28,3 @@ levels_read s levels h = table_cong _ _ λ r c.
     let narrow = column_below c in
     let e : place r c + place r c / 4 ≡ 5 * row_number r + column_number c = omega arith in
     h (place r c) (omega arith) ∙ ap (λ (i : ℕ). level_of (get_or s i 0)) e
-
--- a name looked for among others, from a place on
-module _ (n : Name) (l : List Name) (i : ℕ) (d : Name) where
-  pub among_here : i < length l → same_bytes (get_or l i d).bytes n.bytes ≡ true → among n (drop i l) ≡ true
-  among_here li h = ap (among n) (drop-cons l i d li) ∙ ap (λ (q : Bool). q || among n (drop (suc i) l)) h
-
-  pub among_more : i < length l → same_bytes (get_or l i d).bytes n.bytes ≡ false → among n (drop i l) ≡ among n (drop (i + 1) l)
-  among_more li h =
-      ap (among n) (drop-cons l i d li)
-      ∙ ap (λ (q : Bool). q || among n (drop (suc i) l)) h
-      ∙ ap (λ (k : ℕ). among n (drop k l)) (sym (add-one i))
-
-pub among_done : (n : Name) (l : List Name) (i : ℕ) → length l ≤ i → among n (drop i l) ≡ false
-among_done n l i h = rw (drop_of_length-le l h)

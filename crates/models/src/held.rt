@@ -10,14 +10,8 @@ pub fn first_bytes(text: &[u8]) -> Name
     ensures { result ≡ filled (take 16 text.now) }
 {
     let mut bytes = [0u8; 16];
-    let mut i = 0;
-    while i < 16 {
-        if text.len() <= i {
-            return Name { bytes };
-        }
-        bytes[i] = text[i];
-        i += 1;
-    }
+    let n = text.len().min(16);
+    bytes[..n].copy_from_slice(&text[..n]);
     Name { bytes }
 }
 

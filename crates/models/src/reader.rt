@@ -1,6 +1,5 @@
 // The reader: from a text to a model.
 ghost use Rattle.std.specs.Prelude.{◌+◌, ◌≤◌, ◌≡◌, length, take, drop};
-ghost use Rattle.ground.specs.Bytes.{same_bytes};
 ghost use Rattle.texts.specs.NamePart.{name_run};
 ghost use Rattle.models.specs.Told.{Told};
 ghost use Rattle.models.specs.inner.Progress.{among, repeat_place, finished};
@@ -12,33 +11,26 @@ use answers::Refusal;
 use tables::strength::Strength;
 use tables::table::Table;
 
-// A model in the making, and the place of the first fence name that stood above already (0 while there is none).
+// A model in the making, and the place of the first fence name that stood above already.
 #[derive(Drop)]
 struct Progress {
     model: Model,
-    repeat: usize,
+    repeat: Option<usize>,
 }
 
 // What is left of the text from a place on.
 fn rest(text: &[u8], at: usize) -> &[u8]
     ensures { result.now ≡ drop at text.now }
 {
-    if at <= text.len() {
-        &text[at..]
-    } else {
-        &text[text.len()..]
-    }
+    &text[at.min(text.len())..]
 }
 
 fn table_in(text: &[u8]) -> Table
     ensures { result ≡ table_in text.now }
 {
     let mut levels = [0u8; 16];
-    let mut i = 0;
-    while i < 16 {
-        let s = Strength::of_letter(ground::byte_at(text, i + i / 4));
-        levels[i] = s.level;
-        i += 1;
+    for (i, level) in levels.iter_mut().enumerate() {
+        *level = Strength::of_letter(ground::byte_at(text, i + i / 4)).level;
     }
     Table::of_levels(levels)
 }
@@ -51,58 +43,29 @@ fn name_in(text: &[u8], from: usize, past: usize) -> Name
     held::first_bytes(&text[from..past])
 }
 
-// A loop of its own, since `ground::same` wants both names in memory: with it a text of ten fences took half as long again to read.
-fn same_name(a: Name, b: Name) -> bool
-    ensures { result ≡ same_bytes a.bytes b.bytes }
+fn is_among(name: &Name, names: &[Name]) -> bool
+    ensures { result ≡ among name.now names.now }
 {
-    let mut i = 0;
-    while i < 16 {
-        if a.bytes[i] != b.bytes[i] {
-            return false;
-        }
-        i += 1;
-    }
-    true
-}
-
-// Whether a name stands among the first of sixteen.
-fn is_among(name: Name, names: [Name; 16], count: usize) -> bool
-    requires { count ≤ 16 }
-    ensures { result ≡ among name (take count names) }
-{
-    let mut i = 0;
-    while i < count {
-        let above = names[i];
-        if same_name(above, name) {
-            return true;
-        }
-        i += 1;
-    }
-    false
+    names.iter().any(|above| above.bytes == name.bytes)
 }
 
 fn finish(p: Progress) -> Reading
     ensures { result ≡ finished p }
 {
-    let at = p.repeat;
-    if at == 0 {
-        return Ok(p.model);
+    match p.repeat {
+        None => Ok(p.model),
+        Some(at) => Err(Refusal::FenceNameRepeats(at)),
     }
-    Err(Refusal::FenceNameRepeats(at))
 }
 
 // The place of the first name that stood above already: one was found, or it is the place of this name, or there is none.
-fn repeat_place(found: usize, name: Name, names: [Name; 16], count: usize, at: usize) -> usize
-    requires { count ≤ 16 }
-    ensures { result ≡ repeat_place found name (take count names) at }
+fn repeat_place(found: Option<usize>, name: &Name, above: &[Name], at: usize) -> Option<usize>
+    ensures { result ≡ repeat_place found name.now above.now at }
 {
-    if found != 0 {
-        return found;
+    match found {
+        Some(_) => found,
+        None => is_among(name, above).then_some(at),
     }
-    if is_among(name, names, count) {
-        return at;
-    }
-    0
 }
 
 #[tactic(auto, unfolding(crate::specs::Reading::ended))]
@@ -124,8 +87,7 @@ fn lines(text: &[u8], start: Progress, at: usize) -> Reading
     let mut model = start.model;
     let mut repeat = start.repeat;
     let mut here = at;
-    let mut left: usize = 16;
-    while 0 < left {
+    for k in 0..16 {
         if ground::byte_at(text, here) != b'f' {
             return end(text, Progress { model, repeat }, here);
         }
@@ -133,13 +95,11 @@ fn lines(text: &[u8], start: Progress, at: usize) -> Reading
         // A blank stands between the two.
         let name = name_in(text, line.name, line.table - 1);
         let table = table_in(rest(text, line.table));
-        let k = model.fences;
-        repeat = repeat_place(repeat, name, model.names, k, line.name);
+        repeat = repeat_place(repeat, &name, &model.names[..k], line.name);
         model.tables[k] = table.packed;
         model.names[k] = name;
         model.fences = k + 1;
         here = line.next;
-        left -= 1;
     }
     end(text, Progress { model, repeat }, here)
 }
@@ -158,5 +118,9 @@ pub fn read(text: &[u8]) -> Reading
     let name = name_in(text, line.name, line.table - 5);
     let ppo = table_in(rest(text, line.table));
     let model = held::bare_model(name, ppo);
-    lines(text, Progress { model, repeat: 0 }, line.next)
+    let start = Progress {
+        model,
+        repeat: None,
+    };
+    lines(text, start, line.next)
 }

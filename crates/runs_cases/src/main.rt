@@ -5,7 +5,7 @@
 #![tactic(auto)]
 
 use answers::Answer;
-use cases::fields::{field, number};
+use cases::fields::{field, groups_from, number};
 
 fn print_answer(answer: Answer) {
     let mut line = [0u8; 104];
@@ -53,14 +53,8 @@ fn run_case(fields: &[u8]) {
 }
 
 fn run_cases(input: &[u8]) {
-    let mut k = 1;
-    while k < input.len() {
-        let fields = cases::fields::rest(input, k);
-        if fields.len() == 0 {
-            return;
-        }
+    for fields in groups_from(input, 1, 7) {
         run_case(fields);
-        k += 7;
     }
 }
 

@@ -1,10 +1,12 @@
 -- A model in the making, and how the reader goes on.
-use Rattle.std.specs.Prelude.{ℕ, ◌+◌, Bool, false, ◌||◌, cond, List, [], ◌∷◌, eqb, take, set, Result, Ok, Err}
+use Rattle.std.specs.Prelude.{ℕ, ◌+◌, Bool, cond, List, take, set, Option, Some, None, Result, Ok, Err}
+use Rattle.std.specs.List.{list_any}
 use Rattle.ground.specs.Bytes.{same_bytes}
 use Rattle.answers.specs.declared.Refusal.{Refusal}
 use Rattle.tables.specs.declared.table.Table.{Table}
 use Rattle.models.specs.declared.scan.Line.{Line}
 use Rattle.models.specs.declared.model.Name.{Name}
+use Rattle.models.specs.declared.model.Model.{Model}
 use Rattle.models.specs.Told.{Reading}
 use Rattle.models.specs.declared.reader.Progress.{Progress}
 use Rattle.models.specs.Told.{bare, accepting, refusing}
@@ -20,32 +22,35 @@ on_line (Err at) more = formless at
 
 -- the name stands among others
 abbrev pub among : Name → List Name → Bool
-among n [] = false
-among n (m ∷ ms) = same_bytes m.bytes n.bytes || among n ms
+among n ms = list_any (λ m. same_bytes m.bytes n.bytes) ms
 
 abbrev pub started : Name → Table → Progress
-started name ppo = record { model = bare name ppo; repeat = 0 }
+started name ppo = record { model = bare name ppo; repeat = None }
 
--- the place of the first name that stood above already: one was found, or it is the place of this name, or there is none (0: no fence name
--- stands there)
-abbrev pub repeat_place : ℕ → Name → List Name → ℕ → ℕ
-repeat_place found name above at = cond (eqb found 0) (cond (among name above) at 0) found
+-- the place of the first name that stood above already: one was found, or it is the place of this name, or there is none
+abbrev pub repeat_place : Option ℕ → Name → List Name → ℕ → Option ℕ
+repeat_place (Some found) name above at = Some found
+repeat_place None name above at = cond (among name above) (Some at) None
 
-abbrev pub repeat_of : Progress → Name → ℕ → ℕ
-repeat_of p name at = repeat_place p.repeat name (take p.model.fences p.model.names) at
-
--- one fence more
-abbrev pub with_fence : Progress → Name → ℕ → Table → Progress
-with_fence p name at table = record {
-  model = record {
-    ppo = p.model.ppo;
-    fences = p.model.fences + 1;
-    tables = set p.model.tables p.model.fences table.packed;
-    name = p.model.name;
-    names = set p.model.names p.model.fences name;
-  };
-  repeat = repeat_of p name at;
+-- a model with the fence k stored, and one fence more
+abbrev pub stored : Model → ℕ → Name → Table → Model
+stored m k name table = record {
+  ppo = m.ppo;
+  fences = k + 1;
+  tables = set m.tables k table.packed;
+  name = m.name;
+  names = set m.names k name;
 }
 
+abbrev pub with_fence : Progress → Name → ℕ → Table → Progress
+with_fence p name at table = record {
+  model = stored p.model p.model.fences name table;
+  repeat = repeat_place p.repeat name (take p.model.fences p.model.names) at;
+}
+
+abbrev pub end_of : Model → Option ℕ → Reading
+end_of m None = accepting m
+end_of m (Some at) = refusing (Refusal.FenceNameRepeats at)
+
 abbrev pub finished : Progress → Reading
-finished p = cond (eqb p.repeat 0) (accepting p.model) (refusing (Refusal.FenceNameRepeats p.repeat))
+finished p = end_of p.model p.repeat

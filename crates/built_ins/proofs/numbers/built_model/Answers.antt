@@ -9,12 +9,12 @@ use Rattle.built_ins.proofs.numbers.built_model.Goals as goal
 pub returns : goal.returns
 unfolding model_numbers
 returns c =
-    let first = c.built_name-first in
-    let second = c.built_name-second in
-    let third = c.built_name-third in
+    let first = c.built_name-2 in
+    let second = c.built_name-3 in
+    let third = c.built_name-4 in
     let n = c.args.n in
     row_filled n c.bare_model-model.result first.result second.result third.result
-    (c.bare_model-model.ensures ∙ ap (λ (x : Name). bare x (record { packed = number n 1 })) c.built_name-name.ensures)
+    (c.bare_model-model.ensures ∙ ap (λ (x : Name). bare x (record { packed = number n 1 })) c.built_name.ensures)
     first.ensures
     second.ensures
     third.ensures

@@ -1,5 +1,6 @@
 -- `read` meets its contract: the lines above the fences decide, and then the fences' lines; and that is what 01's words say. Assumes nothing.
 use mathlib.Core.Path.{◌≡◌, refl, sym, ap, ap₂, ◌∙◌}
+use Rattle.std.specs.Prelude.{None}
 use lib.ListN.{drop}
 use Rattle.models.specs.declared.model.Model.{Model}
 use Rattle.models.specs.Reading.{name_in, table_in, lines_from, after_head}
@@ -33,6 +34,6 @@ returns c =
     c.table_in-ppo.ensures ∙ ap table_in c.rest.ensures in
     let is : c.lines.result ≡ after_head t line =
     c.lines.ensures
-    ∙ ap (λ (m : Model). lines_from 16 t (record { model = m; repeat = 0 }) line.next) (c.bare_model-model.ensures ∙ ap₂ bare name ppo) in
+    ∙ ap (λ (m : Model). lines_from 16 t (record { model = m; repeat = None }) line.next) (c.bare_model-model.ensures ∙ ap₂ bare name ppo) in
     let both = meets t (line_next (after_head t) refl (search rules) is ∙ sym (reading_within t (search rules))) in
     record { equation = both.0; words = both.1 }

@@ -7,4 +7,4 @@ pub returns : goal.returns
 returns c =
     let l = c.loop-i in
     c.of_levels.ensures
-    ∙ levels_read c.args.text.now l.levels (λ j lj. l.invariant.2 j (omega arith))
+    ∙ levels_read c.args.text.now _ (λ j lj. l.invariant.1 j (omega arith))
