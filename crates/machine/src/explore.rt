@@ -8,7 +8,7 @@ ghost use Rattle.machine.specs.inner.Explore.{situation_at, Explored, Stored, No
 ghost use Rattle.machine.specs.inner.Stages.{Few, Unused, Candidate};
 
 use crate::step::Answered;
-use crate::{index, refine, step};
+use crate::{index, step};
 use operations::alphabet::{ACCESSES, STRIDE};
 use rule::situation::Situation;
 use rule::way::Shim;
@@ -50,7 +50,7 @@ fn store(
         return 4097;
     }
     table[i * STRIDE + a] = ((o + 1) * 4096 + q) as u32;
-    refine::larger(count, q + 1)
+    count.max(q + 1)
 }
 
 // Notes the answer to candidate (i, a), and gives the count of situations; 4097 where they are more than 4096.
@@ -114,13 +114,11 @@ fn explore_row<'a>(
         pairs.new links.new table.new (i + 1) 0 result }
 {
     let mut count = began;
-    let mut a = 0;
-    while a < ACCESSES + ups.len() {
+    for a in 0..ACCESSES + ups.len() {
         count = explore_letter(shim, ups, fences, pairs, links, table, count, i, a);
         if 4096 < count {
             return count;
         }
-        a += 1;
     }
     count
 }

@@ -6,13 +6,6 @@ ghost use Rattle.machine.specs.inner.Index.{bucket_of, capacity, Index, Holds, A
 
 use ground::Found;
 
-// A link as an index: one more than a place, or 0 where the chain ends.
-fn wide(x: u16) -> usize
-    ensures { result ≡ x }
-{
-    x as usize
-}
-
 fn bucket(need: u64, low: u64) -> usize
     ensures { (result ≡ bucket_of need low) × (result < capacity) }
 {
@@ -24,26 +17,20 @@ fn holds(pairs: &[u64], place: usize, need: u64, low: u64) -> bool
     requires { place * 2 + 1 < length pairs.now }
     ensures { Holds pairs.now need low place result }
 {
-    if pairs[place * 2] != need {
-        return false;
-    }
-    if pairs[place * 2 + 1] != low {
-        return false;
-    }
-    true
+    pairs[place * 2] == need && pairs[place * 2 + 1] == low
 }
 
 fn find<'a>(pairs: &'a [u64], links: &'a [u16], count: usize, need: u64, low: u64) -> Found
     requires { Index pairs.now links.now count }
     ensures { FoundAt pairs.now count need low result }
 {
-    let mut cursor = wide(links[bucket(need, low)]);
+    let mut cursor = usize::from(links[bucket(need, low)]);
     while cursor != 0 {
         let place = cursor - 1;
         if holds(pairs, place, need, low) {
             return Found::At(place);
         }
-        cursor = wide(links[4096 + place]);
+        cursor = usize::from(links[4096 + place]);
     }
     Found::Nowhere
 }

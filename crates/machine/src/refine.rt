@@ -1,6 +1,6 @@
 // Classes of situations: all one at first, then split by what one letter after another shows, and numbered in the order in which they
 // first occur. The table has a word for each situation and letter.
-ghost use Rattle.std.specs.Prelude.{◌+◌, ◌*◌, ◌^◌, ◌<◌, ◌≤◌, max, ◌≡◌, length, replicate};
+ghost use Rattle.std.specs.Prelude.{◌+◌, ◌*◌, ◌^◌, ◌<◌, ◌≤◌, ◌≡◌, length};
 ghost use Rattle.operations.specs.Alphabet.{stride};
 ghost use Rattle.machine.specs.inner.Index.{capacity, Scratch};
 ghost use Rattle.machine.specs.inner.Refine.{Named, Begun, Rounded, Refined};
@@ -8,12 +8,6 @@ ghost use Rattle.machine.specs.inner.Words.{words, Slot, tabled, seen, key};
 
 use crate::index;
 use operations::alphabet::STRIDE;
-
-pub(crate) fn wide_word(x: u32) -> usize
-    ensures { (result ≡ x) × (result < 2 ^ 32) }
-{
-    x as usize
-}
 
 // What a word shows: nothing where it refuses, else its output and its target's class.
 fn shown(word: usize, classes: &[u8]) -> usize
@@ -24,7 +18,7 @@ fn shown(word: usize, classes: &[u8]) -> usize
         return 0;
     }
     let target = word % 4096;
-    word / 4096 * 256 + ground::wide(classes[target])
+    word / 4096 * 256 + usize::from(classes[target])
 }
 
 // A situation's class with what a letter shows of it, as one number.
@@ -32,25 +26,8 @@ fn key_of<'a>(table: &'a [u32], classes: &'a [u8], i: usize, a: usize) -> u64
     requires { Slot table.now i a × (length classes.now ≡ capacity) }
     ensures { result ≡ key table.now classes.now a i }
 {
-    let word = wide_word(table[i * STRIDE + a]);
-    (ground::wide(classes[i]) + 256 * shown(word, classes)) as u64
-}
-
-// No pair is linked.
-fn clear(links: &mut [u16])
-    ensures { links.new ≡ replicate (length links.old) 0 }
-{
-    let mut b = 0;
-    while b < links.len() {
-        links[b] = 0;
-        b += 1;
-    }
-}
-
-pub(crate) fn larger(x: usize, y: usize) -> usize
-    ensures { result ≡ max x y }
-{
-    if x < y { y } else { x }
+    let word = table[i * STRIDE + a] as usize;
+    (usize::from(classes[i]) + 256 * shown(word, classes)) as u64
 }
 
 // Splits the classes of k situations by what letter a shows, into finer classes, whose count it gives; 256 where they are more than 255.
@@ -67,18 +44,16 @@ fn split_by<'a>(
     requires classes_len { (length classes.now ≡ capacity) × (length finer.old ≡ capacity) × Scratch pairs.old links.old }
     ensures { Named k (key table.now classes.now a) finer.new result }
 {
-    clear(links);
+    links.fill(0);
     let mut count = 0;
-    let mut i = 0;
-    while i < k {
+    for i in 0..k {
         let named = key_of(table, classes, i, a);
         let q = index::place(pairs, links, count, named, 0);
         if q == 255 {
             return 256;
         }
         finer[i] = q as u8;
-        count = larger(count, q + 1);
-        i += 1;
+        count = count.max(q + 1);
     }
     count
 }
@@ -100,14 +75,12 @@ fn split_all<'a>(
     ensures { Rounded (tabled letters table.now) k began classes.new result }
 {
     let mut count = began;
-    let mut a = 0;
-    while a < letters {
+    for a in 0..letters {
         count = split_by(table, classes, finer, pairs, links, k, a);
         if 255 < count {
             return count;
         }
         classes.copy_from_slice(finer);
-        a += 1;
     }
     count
 }

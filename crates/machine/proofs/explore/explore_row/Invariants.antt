@@ -8,7 +8,3 @@ use Rattle.machine.proofs.explore.explore_row.Given as goal
 abbrev pub invariant-loop-a : goal.invariant-loop-a
 invariant-loop-a l =
     Rowing (shim_of l.shim l.ups l.fences) l.began l.pairs l.links l.table l.count l.i l.a
-
-abbrev pub decreases-loop-a : goal.decreases-loop-a
-decreases-loop-a l =
-    4 + length l.ups - l.a

@@ -9,4 +9,4 @@ returns-then-q-eq4096 c = unstored _ c.place-q.ensures c.if-q-eq4096.true refl
 pub returns : goal.returns
 returns c =
     let placed = c.place-q in
-    stored _ placed.ensures c.if-q-eq4096.false refl c.larger.ensures
+    stored _ placed.ensures c.if-q-eq4096.false refl c.max.ensures

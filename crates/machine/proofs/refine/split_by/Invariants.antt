@@ -8,7 +8,3 @@ use Rattle.machine.proofs.refine.split_by.Given as goal
 abbrev pub invariant-loop-i : goal.invariant-loop-i
 invariant-loop-i l =
     Splitting (key l.table l.classes l.a) l.k l.finer l.pairs l.links l.count l.i
-
-abbrev pub decreases-loop-i : goal.decreases-loop-i
-decreases-loop-i l =
-    l.k - l.i

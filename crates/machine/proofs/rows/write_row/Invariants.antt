@@ -6,6 +6,3 @@ use Rattle.machine.proofs.rows.write_row.Given as goal
 
 abbrev pub invariant-loop-a : goal.invariant-loop-a
 invariant-loop-a l = RowWritten l.initial.rows l.q (state_entry l.table l.classes l.letters l.i) l.a l.rows × (l.a ≤ stride)
-
-abbrev pub decreases-loop-a : goal.decreases-loop-a
-decreases-loop-a l = stride - l.a

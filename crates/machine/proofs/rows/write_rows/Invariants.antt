@@ -9,6 +9,3 @@ use Rattle.machine.proofs.rows.write_rows.Given as goal
 abbrev pub invariant-loop-i : goal.invariant-loop-i
 invariant-loop-i l =
     (x : Numbering l.k (at l.classes) l.n) → Writing x (state_entry l.table l.classes l.letters) l.initial.rows l.rows l.q l.i
-
-abbrev pub decreases-loop-i : goal.decreases-loop-i
-decreases-loop-i l = l.k - l.i
