@@ -12,18 +12,17 @@ use Rattle.operations.specs.Alphabet.{stride}
 use Rattle.rule.specs.declared.situation.Situation.{Situation}
 use Rattle.mealy.specs.Runs.{Answer, refused, taken, Machine, reached}
 use Rattle.mealy.specs.Order.{◌▹◌}
-use Rattle.mealy.specs.Arrivals.{arrival, More}
+use Rattle.mealy.specs.Arrivals.{arrival}
 use Rattle.mealy.specs.inner.Exploring.{Before}
 use Rattle.mealy.proofs.Runs.{untaken, ends_on}
 use Rattle.mealy.proofs.Numbers.{split_last}
 use Rattle.mealy.proofs.Exploring.{ahead, explore_known, explore_new, explore_beyond}
-use Rattle.machine.specs.inner.Index.{capacity, Index, Pair, Absent, Pushed, known, added, full}
+use Rattle.machine.specs.inner.Index.{capacity, Index, Pair, Absent, Pushed, known, added}
 use Rattle.machine.specs.inner.Words.{answer, row}
 use Rattle.machine.specs.inner.Writing.{Narrow}
-use Rattle.machine.specs.declared.step.Answered.{Answered}
-use Rattle.machine.specs.inner.Explore.{situation_at, Output, Explored, PlacedAt, Notable, Stored, stored, unstored, Onward, onward, beyond}
+use Rattle.std.specs.Prelude.{Option, Some, None}
+use Rattle.machine.specs.inner.Explore.{situation_at, Output, Explored, PlacedAt, Notable, StoredIf, OnwardIf}
 use Rattle.machine.proofs.Keys.{word_taken}
-use Rattle.machine.proofs.Naming.{placed_low}
 
 -- the word of an answer
 encoded : (o q w : ℕ) → q < capacity → w ≡ (o + 1) * 4096 + q → answer w ≡ taken o q
@@ -33,7 +32,7 @@ pub output_byte : (o : ℕ) → Output o → o < 256
 output_byte o (inl h) = omega arith
 output_byte o (inr h) = omega arith
 
-pub notable_byte : {y : Answered} {o : ℕ} {next : Situation} → Notable y → y ≡ Answered.Taken o next → o < 256
+pub notable_byte : {y : Option (ℕ × Situation)} {o : ℕ} {next : Situation} → Notable y → y ≡ Some (o, next) → o < 256
 notable_byte {o = o} {next = next} x e = x.byte o next e
 
 -- a table with one word more
@@ -187,27 +186,19 @@ module _ {m : Machine Situation ℕ} {pairs links table : List ℕ} {count i a :
 
     -- the pair of the next situation is placed
     explored_taken : {pairs' links' : List ℕ} {q : ℕ} → PlacedAt pairs count t pairs' links' q
-        → (q ≡ capacity → ⊥) → {w : ℕ} → w ≡ (o + 1) * 4096 + q → {r : ℕ} → r ≡ max count (q + 1)
+        → {w : ℕ} → w ≡ (o + 1) * 4096 + q → {r : ℕ} → r ≡ max count (q + 1)
         → Explored m pairs' links' (set table (i * stride + a) w) r i (a + 1)
-    explored_taken {q = q} (known h there same y) room {w} word {r} e =
+    explored_taken {q = q} (known h there same y) {w} word {r} e =
         let one : r ≡ count = omega arith in
         rw (one, same) (known_place q w word h there (rw same at y))
-    explored_taken {q = q} (added h absent more pushed) room {w} word {r} e =
+    explored_taken {q = q} (added h absent more pushed) {w} word {r} e =
         let one : r ≡ count + 1 = omega arith in
         rw one (new_place w (omega arith) more absent pushed)
-    explored_taken (full h absent size same) room word e = absurd (room (h ∙ size))
 
-    explored_beyond : {pairs' links' : List ℕ} {q : ℕ} → PlacedAt pairs count t pairs' links' q
-        → q ≡ capacity → More m ◌≡◌ capacity
-    explored_beyond (known h there same y) e = absurd (omega (arith, x.index.fits))
-    explored_beyond (added h absent more pushed) e = absurd (omega arith)
-    explored_beyond (full h absent size same) e =
-        explore_beyond m x.exploring found o t (step_here taking) (unseen absent) capacity (omega (arith, x.size))
-
-    -- and its word stored
-    pub explored_stored : {pairs' links' table' : List ℕ} {r : ℕ}
-        → Stored pairs table count i a o t pairs' links' table' r → Onward m count pairs' links' table' i (a + 1) r
-    explored_stored {r = r} (stored q placed room word e) =
-        rw word
-        (onward (omega arith) (omega (arith, placed_low placed, x.index.fits, room)) (explored_taken placed room refl e))
-    explored_stored (unstored q placed e over) = beyond over (explored_beyond placed e)
+    -- and its word stored; or there is no room for it
+    pub explored_stored : (pairs' links' table' : List ℕ) (r : Option ℕ)
+        → StoredIf pairs table count i a o t pairs' links' table' r → OnwardIf m count pairs' links' table' i (a + 1) r
+    explored_stored pairs' links' table' (Some n) y =
+        rw y.word (record { grown = omega (arith, y.now); explored = explored_taken y.placed refl y.now })
+    explored_stored pairs' links' table' None y =
+        explore_beyond m x.exploring found o t (step_here taking) (unseen y.absent) capacity (omega (arith, y.full, x.size))

@@ -5,10 +5,9 @@ use mathlib.Core.Logic.{⊎_elim}
 use mathlib.Core.List.{List}
 use native.Mathlib.Omega.{arith}
 use lib.ListN.{get_or}
-use Rattle.ground.specs.declared.Found.{Found}
 use Rattle.mealy.proofs.Numbers.{split_last}
 use Rattle.machine.proofs.Links.{same_bucket}
-use Rattle.machine.specs.inner.Index.{capacity, bucket_of, bucket_at, next_at, Index, Pair, Absent, FoundAt, there, nowhere, Placed, known}
+use Rattle.machine.specs.inner.Index.{capacity, bucket_of, bucket_at, next_at, Index, Pair, Absent}
 
 -- a search at a link: the pair stands at no place above it
 pub record Seeking (pairs links : List ℕ) (count need low link : ℕ) : Type 0 where
@@ -49,17 +48,6 @@ seek_next {pairs} {links} {count} {need} {low} {link} x p next more at unlike e 
 
 pub seek_end : {pairs links : List ℕ} {count need low : ℕ} → Seeking pairs links count need low 0 → Absent pairs count need low
 seek_end x p h r = omega (arith, x.below p h r)
-
--- what a search has found, and what it has not
-pub found_known : {pairs links : List ℕ} {count need low : ℕ} {r : Found} {p : ℕ} → FoundAt pairs count need low r → r ≡ Found.At p
-    → Index pairs links count → Placed pairs count need low pairs links p
-found_known {r = r} {p = p} (there q f h here) e x = let one : q ≡ p = cc in known (rw one at h) (rw one at here) refl x
-found_known {r = r} {p = p} (nowhere f absent) e x = let z : ◌≡◌ {A = ℕ} 0 1 = cc in absurd (omega arith)
-
-pub found_absent : {pairs : List ℕ} {count need low : ℕ} {r : Found} → FoundAt pairs count need low r → r ≡ Found.Nowhere
-    → Absent pairs count need low
-found_absent {r = r} (there q f h here) e = let z : ◌≡◌ {A = ℕ} 0 1 = cc in absurd (omega arith)
-found_absent (nowhere f absent) e = absent
 
 -- the next link is lower
 pub seek_less : {pairs links : List ℕ} {count need low link : ℕ} → Seeking pairs links count need low link

@@ -11,8 +11,8 @@ use Rattle.ground.specs.Bytes.{at}
 use Rattle.mealy.specs.inner.Classes.{Numbering}
 use Rattle.mealy.proofs.Numbers.{split_last}
 use Rattle.mealy.proofs.Numbering.{numbering_none, numbering_known, numbering_new}
-use Rattle.machine.specs.inner.Index.{capacity, need_at, Scratch, Index, Pair, Absent, Pushed, Placed, known, added, full}
-use Rattle.machine.specs.inner.Refine.{ByKey, Named, named, crowded}
+use Rattle.machine.specs.inner.Index.{capacity, need_at, Scratch, Index, Pair, Absent, Pushed, Placed, known, added, Full}
+use Rattle.machine.specs.inner.Refine.{ByKey, Named, Crowded}
 
 -- the first i things are numbered
 pub record Naming (key : ℕ → ℕ) (classes pairs links : List ℕ) (count i : ℕ) : Type 0 where
@@ -125,13 +125,11 @@ naming_next {key} {classes} {pairs} {links} {count} {i} x more few {n} e {pairs'
     look (added h absent r there) =
         let m : max count (q + 1) ≡ count + 1 = omega arith in
         rw m (naming_new x more q h absent there)
-    look (full h absent r f) = absurd (omega arith)
 
 pub placed_low : {pairs : List ℕ} {count need low : ℕ} {pairs' links : List ℕ} {q : ℕ}
     → Placed pairs count need low pairs' links q → q ≤ count
 placed_low (known h there f y) = omega arith
 placed_low (added h absent r there) = omega arith
-placed_low (full h absent r f) = omega arith
 
 -- a loop over k things, as long as they have at most 255 keys
 pub record Splitting (key : ℕ → ℕ) (k : ℕ) (classes pairs links : List ℕ) (count i : ℕ) : Type 0 where
@@ -158,13 +156,23 @@ module _ {key : ℕ → ℕ} {k : ℕ} {classes pairs links : List ℕ} {count i
 
   -- a 256th key
   pub splitting_crowded : i < k → {n : ℕ} → n ≡ key i → {pairs' links' : List ℕ} {q : ℕ}
-      → Placed pairs count n 0 pairs' links' q → q ≡ 255 → (left : List ℕ) → Named k key left 256
-  splitting_crowded h e {q = q} placed d left =
+      → Placed pairs count n 0 pairs' links' q → q ≡ 255 → Crowded k key
+  splitting_crowded h e {q = q} placed d =
       let m : max count (q + 1) ≡ 256 = omega (arith, x.few) in
       let y = naming_next x.naming (omega arith) x.few e placed in
-      crowded refl (i + 1) (at (set classes i q)) (omega arith) (rw m at y.numbering) y.by_key
+      record {
+        p = i + 1;
+        class = at (set classes i q);
+        le = omega arith;
+        numbering = rw m at y.numbering;
+        by_key = y.by_key;
+      }
+
+  -- there is room for as many keys as are looked for
+  pub splitting_room : {n : ℕ} {pairs' : List ℕ} → Full pairs count n 0 pairs' → Crowded k key
+  splitting_room f = absurd (omega (arith, f.full, x.few))
 
   pub splitting_end : k ≤ i → Named k key classes count
   splitting_end l =
       let e : k ≡ i = omega (arith, x.here) in
-      named x.few (rw e x.naming.numbering) (rw e x.naming.by_key)
+      record { few = x.few; numbering = rw e x.naming.numbering; by_key = rw e x.naming.by_key }

@@ -4,6 +4,7 @@ use mathlib.Core.Path.{◌≡◌}
 use mathlib.Core.List.{List}
 use native.Mathlib.Omega.{arith}
 use lib.ListN.{length, replicate, length-replicate}
+use Rattle.std.specs.Prelude.{Some, None}
 use Rattle.answers.specs.declared.Refusal.{Refusal}
 use Rattle.operations.specs.Alphabet.{stride, letters_with}
 use Rattle.rule.specs.declared.way.Shim.{Shim}
@@ -13,11 +14,9 @@ use Rattle.machine.specs.Shim.{shim_of}
 use Rattle.machine.specs.Generated.{named, Unmade, crowded, overfull, roomless}
 use Rattle.machine.specs.inner.Index.{capacity}
 use Rattle.machine.specs.inner.Words.{tabled}
-use Rattle.machine.specs.inner.Refine.{Begun, Refined}
+use Rattle.machine.specs.inner.Refine.{Begun, Crowd, Refined}
 use Rattle.machine.specs.inner.Explore.{Surveyed}
 use Rattle.machine.specs.inner.Stages.{Few, Unused, Searched, Sorted}
-use Rattle.machine.proofs.Breadth.{too_many, explored_next}
-use Rattle.machine.proofs.Rounds.{refined_crowd, refined_states}
 use Rattle.machine.proofs.Finish.{few_situations, begun, crowd_states, described}
 use Rattle.machine.proofs.Zeros.{zeros_blank, at_most_sixteen}
 
@@ -28,13 +27,13 @@ pub new_table : Unused (replicate 81920 0)
 new_table = record { whole = length-replicate {A = ℕ} 81920 0; blank = zeros_blank 81920 }
 
 -- more situations than there is room for
-pub survey_crowded : {m : Machine Situation ℕ} {table : List ℕ} {r : ℕ} → Surveyed m table r → 4096 < r → (rows : List ℕ)
+pub survey_crowded : {m : Machine Situation ℕ} {table : List ℕ} → Surveyed m table None → (rows : List ℕ)
     → Unmade m rows Refusal.TooManySituations
-survey_crowded x h rows = crowded (too_many x.ended h)
+survey_crowded x rows = crowded x.ended
 
-pub survey_searched : {s : Shim} {ups fences table : List ℕ} {r : ℕ} → Few ups fences → Surveyed (shim_of s ups fences) table r → r ≤ 4096
+pub survey_searched : {s : Shim} {ups fences table : List ℕ} {r : ℕ} → Few ups fences → Surveyed (shim_of s ups fences) table (Some r)
     → Searched s ups fences table r
-survey_searched few x h = record { few = few; pairs = x.pairs; links = x.links; explored = explored_next x.ended h }
+survey_searched few x = record { few = few; pairs = x.pairs; links = x.links; explored = x.ended }
 
 module _ {s : Shim} {ups fences table : List ℕ} {count : ℕ} (x : Searched s ups fences table count) where
   -- all of one class
@@ -43,13 +42,13 @@ module _ {s : Shim} {ups fences table : List ℕ} {count : ℕ} (x : Searched s 
       begun x.explored (length-replicate {A = ℕ} 4096 0) (zeros_blank 4096) (omega (arith, x.few.few_ups))
 
   -- more states than a byte can number
-  pub searched_overfull : {classes : List ℕ} {r : ℕ} → Refined (tabled (letters_with (length ups)) table) count classes r → 255 < r
+  pub searched_overfull : Crowd (tabled (letters_with (length ups)) table) count
       → (rows : List ℕ) → Unmade (shim_of s ups fences) rows Refusal.TooManyStates
-  searched_overfull y h rows = overfull (few_situations x.explored) (crowd_states x.explored (refined_crowd y h))
+  searched_overfull y rows = overfull (few_situations x.explored) (crowd_states x.explored y)
 
-  pub searched_sorted : {classes : List ℕ} {r : ℕ} → Refined (tabled (letters_with (length ups)) table) count classes r → r ≤ 255
+  pub searched_sorted : {classes : List ℕ} {r : ℕ} → Refined (tabled (letters_with (length ups)) table) count classes r
       → length classes ≡ capacity → Sorted s ups fences table classes count r
-  searched_sorted y h size = record { searched = x; all_classes = size; few_states = h; states_found = refined_states y h }
+  searched_sorted y size = record { searched = x; all_classes = size; few_states = y.few; states_found = y.states }
 
 -- no room for the rows
 pub sorted_roomless : {s : Shim} {ups fences table classes : List ℕ} {count states : ℕ} → Sorted s ups fences table classes count states

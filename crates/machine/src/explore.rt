@@ -4,10 +4,9 @@ ghost use Rattle.std.specs.Prelude.{◌+◌, ◌*◌, ◌<◌, ◌≡◌, length
 ghost use Rattle.machine.specs.Shim.{shim_of};
 ghost use Rattle.machine.specs.inner.Index.{Index};
 ghost use Rattle.machine.specs.inner.Words.{Slot};
-ghost use Rattle.machine.specs.inner.Explore.{situation_at, Explored, Stored, Notable, Noted, Onward, Surveyed, Fresh};
+ghost use Rattle.machine.specs.inner.Explore.{situation_at, Explored, StoredIf, Notable, Noted, OnwardIf, Ended, Surveyed, Fresh};
 ghost use Rattle.machine.specs.inner.Stages.{Few, Unused, Candidate};
 
-use crate::step::Answered;
 use crate::{index, step};
 use operations::alphabet::{ACCESSES, STRIDE};
 use rule::situation::Situation;
@@ -28,7 +27,7 @@ fn situation_at(pairs: &[u64], p: usize) -> Situation
     }
 }
 
-// Stores the next situation, and the word of (i, a) that leads there. Gives the count of situations; 4097 where there is no room.
+// Stores the next situation, if there is room, and the word of (i, a) that leads there, and gives the count of situations.
 fn store(
     pairs: &mut [u64],
     links: &mut [u16],
@@ -38,22 +37,19 @@ fn store(
     a: usize,
     o: usize,
     next: Situation,
-) -> usize
+) -> Option<usize>
     requires { Index pairs.old links.old count × Slot table.old i a × (o < 256) }
-    ensures { Stored pairs.old table.old count i a o next
+    ensures { StoredIf pairs.old table.old count i a o next
         pairs.new links.new table.new result }
 {
     let need = next.need.packed;
     let low = next.low.packed;
-    let q = index::place(pairs, links, count, need, low);
-    if q == 4096 {
-        return 4097;
-    }
+    let q = index::place(pairs, links, count, need, low)?;
     table[i * STRIDE + a] = ((o + 1) * 4096 + q) as u32;
-    count.max(q + 1)
+    Some(count.max(q + 1))
 }
 
-// Notes the answer to candidate (i, a), and gives the count of situations; 4097 where they are more than 4096.
+// Notes the answer to candidate (i, a), and gives the count of situations, unless they are more than 4096.
 fn note(
     pairs: &mut [u64],
     links: &mut [u16],
@@ -61,22 +57,22 @@ fn note(
     count: usize,
     i: usize,
     a: usize,
-    answered: Answered,
-) -> usize
+    answered: Option<(usize, Situation)>,
+) -> Option<usize>
     requires { Index pairs.old links.old count × Slot table.old i a × Notable answered }
     ensures { Noted pairs.old links.old table.old count i a answered
         pairs.new links.new table.new result }
 {
     match answered {
-        Answered::Taken(o, next) => store(pairs, links, table, count, i, a, o, next),
-        Answered::Refused => {
+        Some((o, next)) => store(pairs, links, table, count, i, a, o, next),
+        None => {
             table[i * STRIDE + a] = 0;
-            count
+            Some(count)
         }
     }
 }
 
-// Answers candidate (i, a), and gives the count of situations; 4097 where they are more than 4096.
+// Answers candidate (i, a), and gives the count of situations, unless they are more than 4096.
 fn explore_letter<'a>(
     shim: Shim,
     ups: &'a [u64],
@@ -87,9 +83,9 @@ fn explore_letter<'a>(
     count: usize,
     i: usize,
     a: usize,
-) -> usize
+) -> Option<usize>
     requires { Candidate shim ups.now fences.now pairs.old links.old table.old count i a }
-    ensures { Onward (shim_of shim ups.now fences.now) count
+    ensures { OnwardIf (shim_of shim ups.now fences.now) count
         pairs.new links.new table.new i (a + 1) result }
 {
     let s = situation_at(pairs, i);
@@ -97,7 +93,7 @@ fn explore_letter<'a>(
     note(pairs, links, table, count, i, a, answered)
 }
 
-// Answers every letter at situation i, and gives the count of situations; 4097 where they are more than 4096.
+// Answers every letter at situation i, and gives the count of situations, unless they are more than 4096.
 fn explore_row<'a>(
     shim: Shim,
     ups: &'a [u64],
@@ -107,20 +103,17 @@ fn explore_row<'a>(
     table: &mut [u32],
     began: usize,
     i: usize,
-) -> usize
+) -> Option<usize>
     requires explored { Explored (shim_of shim ups.now fences.now) pairs.old links.old table.old began i 0 }
     requires few { Few ups.now fences.now × (i < began) }
-    ensures { Onward (shim_of shim ups.now fences.now) began
+    ensures { OnwardIf (shim_of shim ups.now fences.now) began
         pairs.new links.new table.new (i + 1) 0 result }
 {
     let mut count = began;
     for a in 0..ACCESSES + ups.len() {
-        count = explore_letter(shim, ups, fences, pairs, links, table, count, i, a);
-        if 4096 < count {
-            return count;
-        }
+        count = explore_letter(shim, ups, fences, pairs, links, table, count, i, a)?;
     }
-    count
+    Some(count)
 }
 
 // Puts the fresh situation at place 0.
@@ -134,7 +127,7 @@ fn begin(pairs: &mut [u64], links: &mut [u16])
     index::place(pairs, links, 0, need, low);
 }
 
-// Answers every letter at every situation, and gives the count of situations; 4097 where they are more than 4096.
+// Answers every letter at every situation, and gives the count of situations, unless they are more than 4096.
 fn explore_all<'a>(
     shim: Shim,
     ups: &'a [u64],
@@ -142,26 +135,23 @@ fn explore_all<'a>(
     pairs: &mut [u64],
     links: &mut [u16],
     table: &mut [u32],
-) -> usize
+) -> Option<usize>
     requires explored { Explored (shim_of shim ups.now fences.now) pairs.old links.old table.old 1 0 0 }
     requires few { Few ups.now fences.now }
-    ensures { Onward (shim_of shim ups.now fences.now) 0
-        pairs.new links.new table.new result 0 result }
+    ensures { Ended (shim_of shim ups.now fences.now)
+        pairs.new links.new table.new result }
 {
     let mut count = 1;
     let mut i = 0;
     while i < count {
-        count = explore_row(shim, ups, fences, pairs, links, table, count, i);
-        if 4096 < count {
-            return count;
-        }
+        count = explore_row(shim, ups, fences, pairs, links, table, count, i)?;
         i += 1;
     }
-    count
+    Some(count)
 }
 
 // Explores from nothing, in an index of its own.
-pub(crate) fn explore<'a>(shim: Shim, ups: &'a [u64], fences: &'a [u64], table: &mut [u32]) -> usize
+pub(crate) fn explore<'a>(shim: Shim, ups: &'a [u64], fences: &'a [u64], table: &mut [u32]) -> Option<usize>
     requires { Few ups.now fences.now × Unused table.old }
     ensures { Surveyed (shim_of shim ups.now fences.now) table.new result }
 {

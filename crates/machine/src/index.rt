@@ -2,9 +2,7 @@
 // search ends where its cursor does. The pair at place p is pairs[2 p] and pairs[2 p + 1]; bucket b's chain begins at links[b] and goes on from
 // place p at links[4096 + p].
 ghost use Rattle.std.specs.Prelude.{◌+◌, ◌*◌, ◌<◌, ◌≡◌, length};
-ghost use Rattle.machine.specs.inner.Index.{bucket_of, capacity, Index, Holds, Absent, FoundAt, Pushed, Placed};
-
-use ground::Found;
+ghost use Rattle.machine.specs.inner.Index.{bucket_of, capacity, Index, Holds, FoundAt, Pushed, PlaceOf};
 
 fn bucket(need: u64, low: u64) -> usize
     ensures { (result ≡ bucket_of need low) × (result < capacity) }
@@ -20,7 +18,7 @@ fn holds(pairs: &[u64], place: usize, need: u64, low: u64) -> bool
     pairs[place * 2] == need && pairs[place * 2 + 1] == low
 }
 
-fn find<'a>(pairs: &'a [u64], links: &'a [u16], count: usize, need: u64, low: u64) -> Found
+fn find<'a>(pairs: &'a [u64], links: &'a [u16], count: usize, need: u64, low: u64) -> Option<usize>
     requires { Index pairs.now links.now count }
     ensures { FoundAt pairs.now count need low result }
 {
@@ -28,11 +26,11 @@ fn find<'a>(pairs: &'a [u64], links: &'a [u16], count: usize, need: u64, low: u6
     while cursor != 0 {
         let place = cursor - 1;
         if holds(pairs, place, need, low) {
-            return Found::At(place);
+            return Some(place);
         }
         cursor = usize::from(links[4096 + place]);
     }
-    Found::Nowhere
+    None
 }
 
 // Puts a pair at the next place.
@@ -49,33 +47,23 @@ fn push(pairs: &mut [u64], links: &mut [u16], count: usize, need: u64, low: u64)
     links[b] = link;
 }
 
-// Puts a pair that stands nowhere yet at the next place, if there is one, and gives the next place.
-fn add(pairs: &mut [u64], links: &mut [u16], count: usize, need: u64, low: u64) -> usize
-    requires index { Index pairs.old links.old count }
-    requires absent { Absent pairs.old count need low }
-    ensures { Placed pairs.old count need low pairs.new links.new result }
-{
-    if count == 4096 {
-        return count;
-    }
-    push(pairs, links, count, need, low);
-    count
-}
-
-// The place of a pair, which is put at the next place where it stands nowhere yet and there is room.
+// The place of a pair, which is put at the next place where it stands nowhere yet; none where there is no room for it.
 pub(crate) fn place(
     pairs: &mut [u64],
     links: &mut [u16],
     count: usize,
     need: u64,
     low: u64,
-) -> usize
+) -> Option<usize>
     requires { Index pairs.old links.old count }
-    ensures { Placed pairs.old count need low pairs.new links.new result }
+    ensures { PlaceOf pairs.old count need low pairs.new links.new result }
 {
-    let found = find(pairs, links, count, need, low);
-    match found {
-        Found::At(p) => p,
-        Found::Nowhere => add(pairs, links, count, need, low),
+    if let Some(p) = find(pairs, links, count, need, low) {
+        return Some(p);
     }
+    if count == 4096 {
+        return None;
+    }
+    push(pairs, links, count, need, low);
+    Some(count)
 }

@@ -69,11 +69,10 @@ fn sort<'a>(
     ensures { Makes shim ups.now fences.now rows.old result rows.new }
 {
     let mut classes = [0u8; 4096];
-    let states = refine::refine(table, &mut classes, count, ACCESSES + ups.len());
-    if 255 < states {
-        return Outcome::Refused(Refusal::TooManyStates);
+    match refine::refine(table, &mut classes, count, ACCESSES + ups.len()) {
+        Some(states) => write(shim, ups, fences, table, &classes, count, states, rows),
+        None => Outcome::Refused(Refusal::TooManyStates),
     }
-    write(shim, ups, fences, table, &classes, count, states, rows)
 }
 
 // Finds the situations, in a table of answers in which nothing has been written.
@@ -87,11 +86,10 @@ fn search<'a>(
     requires { Few ups.now fences.now × Unused table.old }
     ensures { Makes shim ups.now fences.now rows.old result rows.new }
 {
-    let count = explore::explore(shim, ups, fences, table);
-    if 4096 < count {
-        return Outcome::Refused(Refusal::TooManySituations);
+    match explore::explore(shim, ups, fences, table) {
+        Some(count) => sort(shim, ups, fences, table, count, rows),
+        None => Outcome::Refused(Refusal::TooManySituations),
     }
-    sort(shim, ups, fences, table, count, rows)
 }
 
 // Generates the machine of a shim, by its way and its two default tables, with the packed tables of the upstream model's fences and of the target

@@ -3,7 +3,7 @@
 ghost use Rattle.std.specs.Prelude.{◌+◌, ◌*◌, ◌^◌, ◌<◌, ◌≤◌, ◌≡◌, length};
 ghost use Rattle.operations.specs.Alphabet.{stride};
 ghost use Rattle.machine.specs.inner.Index.{capacity, Scratch};
-ghost use Rattle.machine.specs.inner.Refine.{Named, Begun, Rounded, Refined};
+ghost use Rattle.machine.specs.inner.Refine.{Begun, NamedIf, RoundedIf, RefinedIf};
 ghost use Rattle.machine.specs.inner.Words.{words, Slot, tabled, seen, key};
 
 use crate::index;
@@ -30,7 +30,7 @@ fn key_of<'a>(table: &'a [u32], classes: &'a [u8], i: usize, a: usize) -> u64
     (usize::from(classes[i]) + 256 * shown(word, classes)) as u64
 }
 
-// Splits the classes of k situations by what letter a shows, into finer classes, whose count it gives; 256 where they are more than 255.
+// Splits the classes of k situations by what letter a shows, into finer classes, and gives their count, unless they are more than 255.
 fn split_by<'a>(
     table: &'a [u32],
     classes: &'a [u8],
@@ -39,26 +39,26 @@ fn split_by<'a>(
     links: &mut [u16],
     k: usize,
     a: usize,
-) -> usize
+) -> Option<usize>
     requires k_le_capacity { (k ≤ capacity) × (a < stride) × (length table.now ≡ words) }
     requires classes_len { (length classes.now ≡ capacity) × (length finer.old ≡ capacity) × Scratch pairs.old links.old }
-    ensures { Named k (key table.now classes.now a) finer.new result }
+    ensures { NamedIf k (key table.now classes.now a) finer.new result }
 {
     links.fill(0);
     let mut count = 0;
     for i in 0..k {
         let named = key_of(table, classes, i, a);
-        let q = index::place(pairs, links, count, named, 0);
+        let q = index::place(pairs, links, count, named, 0)?;
         if q == 255 {
-            return 256;
+            return None;
         }
         finer[i] = q as u8;
         count = count.max(q + 1);
     }
-    count
+    Some(count)
 }
 
-// One round: splits the classes by one letter after another, and gives their count; 256 where they are more than 255.
+// One round: splits the classes by one letter after another, and gives their count, unless they are more than 255.
 fn split_all<'a>(
     table: &'a [u32],
     classes: &mut [u8],
@@ -68,29 +68,26 @@ fn split_all<'a>(
     k: usize,
     letters: usize,
     began: usize,
-) -> usize
+) -> Option<usize>
     requires table_len { (length table.now ≡ words) × (length finer.old ≡ capacity) }
     requires scratch { Scratch pairs.old links.old }
     requires begun { Begun (tabled letters table.now) k classes.old began }
-    ensures { Rounded (tabled letters table.now) k began classes.new result }
+    ensures { RoundedIf (tabled letters table.now) k began classes.new result }
 {
     let mut count = began;
     for a in 0..letters {
-        count = split_by(table, classes, finer, pairs, links, k, a);
-        if 255 < count {
-            return count;
-        }
+        count = split_by(table, classes, finer, pairs, links, k, a)?;
         classes.copy_from_slice(finer);
     }
-    count
+    Some(count)
 }
 
-// Splits the classes round after round, until a round leaves their count as it was: then each class is one state. Gives the count; 256 where the
-// states are more than 255.
-pub(crate) fn refine<'a>(table: &'a [u32], classes: &mut [u8], k: usize, letters: usize) -> usize
+// Splits the classes round after round, until a round leaves their count as it was: then each class is one state. Gives the count,
+// unless the states are more than 255.
+pub(crate) fn refine<'a>(table: &'a [u32], classes: &mut [u8], k: usize, letters: usize) -> Option<usize>
     requires table_len { length table.now ≡ words }
     requires begun { Begun (tabled letters table.now) k classes.old 1 }
-    ensures { Refined (tabled letters table.now) k classes.new result }
+    ensures { RefinedIf (tabled letters table.now) k classes.new result }
 {
     let mut finer = [0u8; 4096];
     let mut pairs = [0u64; 8192];
@@ -99,12 +96,9 @@ pub(crate) fn refine<'a>(table: &'a [u32], classes: &mut [u8], k: usize, letters
     loop {
         let more = split_all(
             table, classes, &mut finer, &mut pairs, &mut links, k, letters, count,
-        );
-        if 255 < more {
-            return more;
-        }
+        )?;
         if more == count {
-            return more;
+            return Some(more);
         }
         count = more;
     }

@@ -10,35 +10,28 @@ use rule::situation::Situation;
 use rule::way;
 use rule::way::{Shim, Step};
 
-// The output, a fence's number or 255 for none, and the next situation.
-#[derive(Drop)]
-pub(crate) enum Answered {
-    Taken(usize, Situation),
-    Refused,
-}
-
-fn put_before(step: Step) -> Answered
+fn put_before(step: Step) -> Option<(usize, Situation)>
     ensures { meant result ≡ step_answer step }
 {
     match step {
-        Step::Plain(next) => Answered::Taken(255, next),
-        Step::Fenced(g, next) => Answered::Taken(g, next),
-        Step::Refused => Answered::Refused,
+        Step::Plain(next) => Some((255, next)),
+        Step::Fenced(g, next) => Some((g, next)),
+        Step::Refused => None,
     }
 }
 
-// What letter a gets in situation s.
+// What letter a gets in situation s: the output, a fence's number or 255 for none, and the next situation; nothing where it is refused.
 pub(crate) fn answer<'a>(
     shim: Shim,
     ups: &'a [u64],
     fences: &'a [u64],
     s: Situation,
     a: usize,
-) -> Answered
+) -> Option<(usize, Situation)>
     ensures { meant result ≡ letter_answer shim.way (upstream_of shim ups.now) (target_of shim fences.now) s a }
 {
     if a < ACCESSES {
         return put_before(way::take(shim, fences, s, alphabet::kind_of(a)));
     }
-    Answered::Taken(255, s.asks(way::fence_table(ups, a - ACCESSES)))
+    Some((255, s.asks(way::fence_table(ups, a - ACCESSES))))
 }

@@ -1,6 +1,5 @@
 -- Pairs of numbers, found again by their bucket. A link is one more than a place, or 0 where the chain ends.
-use Rattle.std.specs.Prelude.{ℕ, ◌+◌, ◌*◌, ◌%◌, ◌≤◌, ◌<◌, ◌≡◌, Bool, true, false, List, length, get_or}
-use Rattle.ground.specs.declared.Found.{Found}
+use Rattle.std.specs.Prelude.{ℕ, ◌+◌, ◌*◌, ◌%◌, ◌≤◌, ◌<◌, ◌≡◌, Bool, true, false, List, length, get_or, Option, Some, None}
 
 abbrev pub capacity : ℕ
 capacity = 4096
@@ -56,9 +55,9 @@ abbrev pub Absent : List ℕ → ℕ → ℕ → ℕ → Type 0
 Absent pairs count need low = (p : ℕ) → p < count → Pair pairs need low p → ⊥
 
 -- what a search finds: the pair's place, or that there is none
-pub data FoundAt (pairs : List ℕ) (count need low : ℕ) (r : Found) : Type 0 where
-  there : (p : ℕ) → r ≡ Found.At p → p < count → Pair pairs need low p → FoundAt pairs count need low r
-  nowhere : r ≡ Found.Nowhere → Absent pairs count need low → FoundAt pairs count need low r
+abbrev pub FoundAt : List ℕ → ℕ → ℕ → ℕ → Option ℕ → Type 0
+FoundAt pairs count need low (Some p) = (p < count) × Pair pairs need low p
+FoundAt pairs count need low None = Absent pairs count need low
 
 -- the pair stands at the next place, and every other as it was
 pub record Pushed (pairs : List ℕ) (count need low : ℕ) (pairs' links : List ℕ) : Type 0 where
@@ -66,9 +65,19 @@ pub record Pushed (pairs : List ℕ) (count need low : ℕ) (pairs' links : List
   pub old : (p : ℕ) → p < count → Pair pairs' (need_at pairs p) (low_at pairs p) p
   pub index : Index pairs' links (count + 1)
 
--- the place of a pair: where it stands already; or the next one, where it stood nowhere and stands now, or where there is no room for it
-pub data Placed (pairs : List ℕ) (count need low : ℕ) (pairs' links : List ℕ) (r : ℕ) : Type 0 where
-  known : r < count → Pair pairs need low r → pairs' ≡ pairs → Index pairs' links count → Placed pairs count need low pairs' links r
-  added : r ≡ count → Absent pairs count need low → count < capacity → Pushed pairs count need low pairs' links
-      → Placed pairs count need low pairs' links r
-  full : r ≡ count → Absent pairs count need low → count ≡ capacity → pairs' ≡ pairs → Placed pairs count need low pairs' links r
+-- the place of a pair: where it stands already; or the next one, where it stood nowhere and stands now
+pub data Placed (pairs : List ℕ) (count need low : ℕ) (pairs' links : List ℕ) (p : ℕ) : Type 0 where
+  known : p < count → Pair pairs need low p → pairs' ≡ pairs → Index pairs' links count → Placed pairs count need low pairs' links p
+  added : p ≡ count → Absent pairs count need low → count < capacity → Pushed pairs count need low pairs' links
+      → Placed pairs count need low pairs' links p
+
+-- the pair stands nowhere, and there is no room for it
+pub record Full (pairs : List ℕ) (count need low : ℕ) (pairs' : List ℕ) : Type 0 where
+  pub absent : Absent pairs count need low
+  pub full : count ≡ capacity
+  pub same : pairs' ≡ pairs
+
+-- its place, or that there is no room for it
+abbrev pub PlaceOf : List ℕ → ℕ → ℕ → ℕ → List ℕ → List ℕ → Option ℕ → Type 0
+PlaceOf pairs count need low pairs' links (Some p) = Placed pairs count need low pairs' links p
+PlaceOf pairs count need low pairs' links None = Full pairs count need low pairs'
