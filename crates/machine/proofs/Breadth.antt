@@ -8,10 +8,9 @@ use Rattle.rule.specs.declared.way.Shim.{Shim}
 use Rattle.rule.specs.Situation.{fresh}
 use Rattle.rule.specs.Sides.{upstream_of, target_of}
 use Rattle.mealy.specs.Runs.{Machine}
-use Rattle.mealy.specs.Arrivals.{More}
 use Rattle.mealy.proofs.Runs.{untaken}
 use Rattle.mealy.proofs.Exploring.{explore_start, explore_row}
-use Rattle.machine.specs.inner.Index.{capacity, Placed, known, added, PlaceOf}
+use Rattle.machine.specs.inner.Index.{Placed, known, added, PlaceOf}
 use Rattle.machine.specs.inner.Words.{Slot, row}
 use Rattle.machine.specs.inner.Explore.{situation_at, Output, Explored, meant, Notable, Noted, passed, barred, Onward, OnwardIf, Fresh}
 use Rattle.machine.specs.inner.Stages.{Unused, Candidate}

@@ -5,7 +5,6 @@ use mathlib.Core.List.{List}
 use native.Mathlib.Omega.{arith}
 use lib.ListN.{length}
 use Rattle.ground.specs.Bytes.{at}
-use Rattle.mealy.specs.Runs.{Machine}
 use Rattle.mealy.specs.inner.Classes.{Coarse, Round}
 use Rattle.mealy.proofs.Refining.{split_coarse, round_start, round_next, round_end}
 use Rattle.machine.specs.inner.Index.{capacity, Scratch}

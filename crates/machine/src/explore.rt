@@ -151,7 +151,12 @@ fn explore_all<'a>(
 }
 
 // Explores from nothing, in an index of its own.
-pub(crate) fn explore<'a>(shim: Shim, ups: &'a [u64], fences: &'a [u64], table: &mut [u32]) -> Option<usize>
+pub(crate) fn explore<'a>(
+    shim: Shim,
+    ups: &'a [u64],
+    fences: &'a [u64],
+    table: &mut [u32],
+) -> Option<usize>
     requires { Few ups.now fences.now × Unused table.old }
     ensures { Surveyed (shim_of shim ups.now fences.now) table.new result }
 {

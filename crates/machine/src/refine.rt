@@ -84,7 +84,12 @@ fn split_all<'a>(
 
 // Splits the classes round after round, until a round leaves their count as it was: then each class is one state. Gives the count,
 // unless the states are more than 255.
-pub(crate) fn refine<'a>(table: &'a [u32], classes: &mut [u8], k: usize, letters: usize) -> Option<usize>
+pub(crate) fn refine<'a>(
+    table: &'a [u32],
+    classes: &mut [u8],
+    k: usize,
+    letters: usize,
+) -> Option<usize>
     requires table_len { length table.now ≡ words }
     requires begun { Begun (tabled letters table.now) k classes.old 1 }
     ensures { RefinedIf (tabled letters table.now) k classes.new result }

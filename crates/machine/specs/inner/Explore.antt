@@ -59,11 +59,11 @@ pub record Notable (y : Option (ℕ × Situation)) : Type 0 where
 
 -- the answer to (i, a) is noted: its situation is stored; or the table has the word of a refusal, and all else is as it was
 pub data Noted (pairs links table : List ℕ) (count i a : ℕ) (y : Option (ℕ × Situation)) (pairs' links' table' : List ℕ) (r : Option ℕ) : Type 0
-    where
-  passed : {o : ℕ} {next : Situation} → y ≡ Some (o, next) → StoredIf pairs table count i a o next pairs' links' table' r
-      → Noted pairs links table count i a y pairs' links' table' r
-  barred : y ≡ None → pairs' ≡ pairs → links' ≡ links → table' ≡ set table (i * stride + a) 0 → r ≡ Some count
-      → Noted pairs links table count i a y pairs' links' table' r
+  where
+    passed : {o : ℕ} {next : Situation} → y ≡ Some (o, next) → StoredIf pairs table count i a o next pairs' links' table' r
+        → Noted pairs links table count i a y pairs' links' table' r
+    barred : y ≡ None → pairs' ≡ pairs → links' ≡ links → table' ≡ set table (i * stride + a) 0 → r ≡ Some count
+        → Noted pairs links table count i a y pairs' links' table' r
 
 -- how exploring goes on from count situations to candidate (i, a): with r of them
 pub record Onward (m : Machine Situation ℕ) (count : ℕ) (pairs links table : List ℕ) (i a r : ℕ) : Type 0 where

@@ -1,6 +1,4 @@
 -- `explore_row` meets its contract: the letters below the one at hand have been answered; each turn answers one more. Assumes nothing.
-use Prim.Native.Nat.{◌+◌, ◌-◌}
-use lib.ListN.{length}
 use Rattle.machine.specs.Shim.{shim_of}
 use Rattle.machine.proofs.Breadth.{Rowing}
 use Rattle.machine.proofs.explore.explore_row.Given as goal

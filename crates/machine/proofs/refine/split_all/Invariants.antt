@@ -1,5 +1,4 @@
 -- `split_all` meets its contract: the letters below the one at hand have split the classes; each turn splits by one more. Assumes nothing.
-use Prim.Native.Nat.{◌-◌}
 use Rattle.machine.proofs.Rounds.{Going}
 use Rattle.machine.proofs.refine.split_all.Given as goal
 

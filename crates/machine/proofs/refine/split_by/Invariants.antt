@@ -1,6 +1,5 @@
 -- `split_by` meets its contract: the situations below the one at hand are numbered by their keys, which are the pairs of the index. Assumes
 -- nothing.
-use Prim.Native.Nat.{◌-◌}
 use Rattle.machine.specs.inner.Words.{key}
 use Rattle.machine.proofs.Naming.{Splitting}
 use Rattle.machine.proofs.refine.split_by.Given as goal

@@ -1,5 +1,5 @@
 -- `write_row` meets its contract: the words below the one at hand are written, and all else is as it was. Assumes nothing.
-use Prim.Native.Nat.{◌-◌, ◌≤◌}
+use Prim.Native.Nat.{◌≤◌}
 use Rattle.operations.specs.Alphabet.{stride}
 use Rattle.machine.specs.inner.Writing.{state_entry, RowWritten}
 use Rattle.machine.proofs.rows.write_row.Given as goal

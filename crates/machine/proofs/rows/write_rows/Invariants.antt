@@ -1,5 +1,4 @@
 -- `write_rows` meets its contract: the classes below q have their rows, read off their first situations, all of which are passed. Assumes nothing.
-use Prim.Native.Nat.{◌-◌}
 use Rattle.ground.specs.Bytes.{at}
 use Rattle.mealy.specs.inner.Classes.{Numbering}
 use Rattle.machine.specs.inner.Writing.{state_entry}
