@@ -7,38 +7,33 @@ use lib.ListN.{length}
 use Rattle.ground.specs.Bytes.{at}
 use Rattle.mealy.specs.inner.Classes.{Coarse, Round}
 use Rattle.mealy.proofs.Refining.{split_coarse, round_start, round_next, round_end}
-use Rattle.machine.specs.inner.Index.{capacity, Scratch}
+use Rattle.machine.specs.inner.Index.{capacity}
 use Rattle.machine.specs.inner.Words.{words, tabled, key}
 use Rattle.machine.specs.inner.Refine.{Named, Crowded, Rounded, Refined, Begun, Crowd}
 use Rattle.machine.proofs.Keys.{key_split}
 
-pub record Going (letters : ℕ) (table : List ℕ) (k began : ℕ) (classes finer pairs links : List ℕ) (count a : ℕ) : Type 0 where
+pub record Going (letters : ℕ) (table : List ℕ) (k began : ℕ) (classes finer : List ℕ) (count a : ℕ) : Type 0 where
   pub begun : Begun (tabled letters table) k classes count
   pub spare : length finer ≡ capacity
-  pub scratch : Scratch pairs links
   pub round : Round (tabled letters table) k began (at classes) count a
   pub here : a ≤ letters
 
-pub going_start : {letters : ℕ} {table : List ℕ} {k : ℕ} {classes finer pairs links : List ℕ} {began : ℕ}
-    → Begun (tabled letters table) k classes began → length finer ≡ capacity → Scratch pairs links
-    → Going letters table k began classes finer pairs links began 0
-going_start x f s =
-    record { begun = x; spare = f; scratch = s; round = round_start x.closed x.numbering x.coarse; here = omega arith }
+pub going_start : {letters : ℕ} {table : List ℕ} {k : ℕ} {classes finer : List ℕ} {began : ℕ}
+    → Begun (tabled letters table) k classes began → length finer ≡ capacity
+    → Going letters table k began classes finer began 0
+going_start x f =
+    record { begun = x; spare = f; round = round_start x.closed x.numbering x.coarse; here = omega arith }
 
-pub scratch_kept : {pairs links pairs' links' : List ℕ} → Scratch pairs links → length pairs' ≡ length pairs → length links' ≡ length links
-    → Scratch pairs' links'
-scratch_kept x a b = record { all_pairs = a ∙ x.all_pairs; all_links = b ∙ x.all_links }
-
-module _ {letters : ℕ} {table : List ℕ} {k began : ℕ} {classes finer pairs links : List ℕ} {count a : ℕ}
-    (x : Going letters table k began classes finer pairs links count a) (more : a < letters) where
+module _ {letters : ℕ} {table : List ℕ} {k began : ℕ} {classes finer : List ℕ} {count a : ℕ}
+    (x : Going letters table k began classes finer count a) (more : a < letters) where
   bytes : (i : ℕ) → i < k → at classes i < 256
   bytes i h = omega (arith, x.begun.numbering.below i h, x.begun.few)
 
   -- one letter more
   pub going_next : {finer' : List ℕ} {r : ℕ} → Named k (key table classes a) finer' r → length finer' ≡ length finer
-      → {classes' : List ℕ} → classes' ≡ finer' → {pairs' links' : List ℕ} → Scratch pairs' links'
-      → Going letters table k began classes' finer' pairs' links' r (a + 1)
-  going_next {finer'} y size copy s =
+      → {classes' : List ℕ} → classes' ≡ finer'
+      → Going letters table k began classes' finer' r (a + 1)
+  going_next {finer'} y size copy =
       let split = key_split letters table classes k a x.begun.closed bytes (omega arith) more y.by_key in
       let coarse : Coarse (tabled letters table) k (at finer') = split_coarse x.begun.closed k a (omega arith) x.begun.coarse split in
       rw copy
@@ -54,7 +49,6 @@ module _ {letters : ℕ} {table : List ℕ} {k began : ℕ} {classes finer pairs
               coarse = coarse;
             };
         spare = size ∙ x.spare;
-        scratch = s;
         round = round_next x.begun.closed x.round split y.numbering;
         here = omega arith;
       })
@@ -71,27 +65,26 @@ module _ {letters : ℕ} {table : List ℕ} {k began : ℕ} {classes finer pairs
         coarse = split_coarse x.begun.closed y.p a y.le x.begun.coarse split;
       }
 
-pub going_end : {letters : ℕ} {table : List ℕ} {k began : ℕ} {classes finer pairs links : List ℕ} {count a : ℕ}
-    → Going letters table k began classes finer pairs links count a → letters ≤ a
+pub going_end : {letters : ℕ} {table : List ℕ} {k began : ℕ} {classes finer : List ℕ} {count a : ℕ}
+    → Going letters table k began classes finer count a → letters ≤ a
     → Rounded (tabled letters table) k began classes count
 going_end {letters} {a = a} x h =
     let e : a ≡ letters = omega (arith, x.here) in
     record { few = x.begun.few; round = rw e at x.round }
 
 -- rounds after rounds
-pub record Refining (letters : ℕ) (table : List ℕ) (k : ℕ) (classes finer pairs links : List ℕ) (count : ℕ) : Type 0 where
+pub record Refining (letters : ℕ) (table : List ℕ) (k : ℕ) (classes finer : List ℕ) (count : ℕ) : Type 0 where
   pub begun : Begun (tabled letters table) k classes count
   pub whole : length table ≡ words
   pub spare : length finer ≡ capacity
-  pub scratch : Scratch pairs links
 
-pub refining_start : {letters : ℕ} {table : List ℕ} {k : ℕ} {classes finer pairs links : List ℕ} {began : ℕ}
-    → Begun (tabled letters table) k classes began → (length table ≡ words) × (length finer ≡ capacity) → Scratch pairs links
-    → Refining letters table k classes finer pairs links began
-refining_start x f s = record { begun = x; whole = f.0; spare = f.1; scratch = s }
+pub refining_start : {letters : ℕ} {table : List ℕ} {k : ℕ} {classes finer : List ℕ} {began : ℕ}
+    → Begun (tabled letters table) k classes began → (length table ≡ words) × (length finer ≡ capacity)
+    → Refining letters table k classes finer began
+refining_start x f = record { begun = x; whole = f.0; spare = f.1 }
 
-module _ {letters : ℕ} {table : List ℕ} {k : ℕ} {classes finer pairs links : List ℕ} {count : ℕ}
-    (x : Refining letters table k classes finer pairs links count) {classes' : List ℕ} {r : ℕ}
+module _ {letters : ℕ} {table : List ℕ} {k : ℕ} {classes finer : List ℕ} {count : ℕ}
+    (x : Refining letters table k classes finer count) {classes' : List ℕ} {r : ℕ}
     (y : Rounded (tabled letters table) k count classes' r) where
   -- a round that left the count as it was
   pub refining_end : r ≡ count → Refined (tabled letters table) k classes' r
@@ -101,9 +94,8 @@ module _ {letters : ℕ} {table : List ℕ} {k : ℕ} {classes finer pairs links
   refining_less unlike = omega (arith, y.few, y.round.grown, unlike)
 
   pub refining_next : length classes' ≡ length classes → {finer' : List ℕ} → length finer' ≡ length finer
-      → {pairs' links' : List ℕ} → Scratch pairs' links'
-      → Refining letters table k classes' finer' pairs' links' r
-  refining_next size spare s =
+      → Refining letters table k classes' finer' r
+  refining_next size spare =
       record {
         begun =
             record {
@@ -117,5 +109,4 @@ module _ {letters : ℕ} {table : List ℕ} {k : ℕ} {classes finer pairs links
             };
         whole = x.whole;
         spare = spare ∙ x.spare;
-        scratch = s;
       }

@@ -4,18 +4,17 @@ use mathlib.Core.Path.{◌≡◌}
 use mathlib.Core.List.{List}
 use native.Mathlib.Omega.{arith}
 use lib.ListN.{length, replicate, length-replicate}
-use Rattle.std.specs.Prelude.{Some, None}
 use Rattle.answers.specs.declared.Refusal.{Refusal}
 use Rattle.operations.specs.Alphabet.{stride, letters_with}
 use Rattle.rule.specs.declared.way.Shim.{Shim}
 use Rattle.rule.specs.declared.situation.Situation.{Situation}
 use Rattle.mealy.specs.Runs.{Machine}
+use Rattle.mealy.specs.Arrivals.{More}
 use Rattle.machine.specs.Shim.{shim_of}
 use Rattle.machine.specs.Generated.{named, Unmade, crowded, overfull, roomless}
 use Rattle.machine.specs.inner.Index.{capacity}
 use Rattle.machine.specs.inner.Words.{tabled}
 use Rattle.machine.specs.inner.Refine.{Begun, Crowd, Refined}
-use Rattle.machine.specs.inner.Explore.{Surveyed}
 use Rattle.machine.specs.inner.Stages.{Few, Unused, Searched, Sorted}
 use Rattle.machine.proofs.Finish.{few_situations, begun, crowd_states, described}
 use Rattle.machine.proofs.Zeros.{zeros_blank, at_most_sixteen}
@@ -27,24 +26,19 @@ pub new_table : Unused (replicate 81920 0)
 new_table = record { whole = length-replicate {A = ℕ} 81920 0; blank = zeros_blank 81920 }
 
 -- more situations than there is room for
-pub survey_crowded : {m : Machine Situation ℕ} {table : List ℕ} → Surveyed m table None → (rows : List ℕ)
-    → Unmade m rows Refusal.TooManySituations
-survey_crowded x rows = crowded x.ended
-
-pub survey_searched : {s : Shim} {ups fences table : List ℕ} {r : ℕ} → Few ups fences → Surveyed (shim_of s ups fences) table (Some r)
-    → Searched s ups fences table r
-survey_searched few x = record { few = few; pairs = x.pairs; links = x.links; explored = x.ended }
+pub survey_crowded : {m : Machine Situation ℕ} → More m ◌≡◌ capacity → (rows : List ℕ) → Unmade m rows Refusal.TooManySituations
+survey_crowded x rows = crowded x
 
 module _ {s : Shim} {ups fences table : List ℕ} {count : ℕ} (x : Searched s ups fences table count) where
   -- all of one class
   pub searched_begun : Begun (tabled (letters_with (length ups)) table) count (replicate 4096 0) 1
   searched_begun =
-      begun x.explored (length-replicate {A = ℕ} 4096 0) (zeros_blank 4096) (omega (arith, x.few.few_ups))
+      begun x.surveyed (length-replicate {A = ℕ} 4096 0) (zeros_blank 4096) (omega (arith, x.few.few_ups))
 
   -- more states than a byte can number
   pub searched_overfull : Crowd (tabled (letters_with (length ups)) table) count
       → (rows : List ℕ) → Unmade (shim_of s ups fences) rows Refusal.TooManyStates
-  searched_overfull y rows = overfull (few_situations x.explored) (crowd_states x.explored y)
+  searched_overfull y rows = overfull (few_situations x.surveyed) (crowd_states x.surveyed y)
 
   pub searched_sorted : {classes : List ℕ} {r : ℕ} → Refined (tabled (letters_with (length ups)) table) count classes r
       → length classes ≡ capacity → Sorted s ups fences table classes count r
@@ -53,4 +47,4 @@ module _ {s : Shim} {ups fences table : List ℕ} {count : ℕ} (x : Searched s 
 -- no room for the rows
 pub sorted_roomless : {s : Shim} {ups fences table classes : List ℕ} {count states : ℕ} → Sorted s ups fences table classes count states
     → {rows : List ℕ} → length rows < states * stride → Unmade (shim_of s ups fences) rows Refusal.BufferTooSmall
-sorted_roomless x short = roomless (few_situations x.searched.explored) x.few_states (described x) short
+sorted_roomless x short = roomless (few_situations x.searched.surveyed) x.few_states (described x) short

@@ -2,7 +2,14 @@
 // search ends where its cursor does. The pair at place p is pairs[2 p] and pairs[2 p + 1]; bucket b's chain begins at links[b] and goes on from
 // place p at links[4096 + p].
 ghost use Rattle.std.specs.Prelude.{◌+◌, ◌*◌, ◌<◌, ◌≡◌, length};
-ghost use Rattle.machine.specs.inner.Index.{bucket_of, capacity, Index, Holds, FoundAt, Pushed, PlaceOf};
+ghost use Rattle.machine.specs.inner.Index.{bucket_of, capacity, need_at, low_at, Linked, FoundAt, Pushed, PlaceOf};
+
+#[derive(Drop)]
+pub(crate) struct Index {
+    pub(crate) pairs: [u64; 8192],
+    pub(crate) links: [u16; 8192],
+    pub(crate) count: usize,
+}
 
 fn bucket(need: u64, low: u64) -> usize
     ensures { (result ≡ bucket_of need low) × (result < capacity) }
@@ -10,60 +17,63 @@ fn bucket(need: u64, low: u64) -> usize
     ((need % 65521 + low % 65537 * 3) % 4096) as usize
 }
 
-// Whether the pair stands at a place.
-fn holds(pairs: &[u64], place: usize, need: u64, low: u64) -> bool
-    requires { place * 2 + 1 < length pairs.now }
-    ensures { Holds pairs.now need low place result }
-{
-    pairs[place * 2] == need && pairs[place * 2 + 1] == low
-}
+impl Index {
+    // The pair at a place.
+    pub(crate) fn pair(&self, place: usize) -> (u64, u64)
+        requires { place < capacity }
+        ensures { result ≡ (need_at self.now.pairs place, low_at self.now.pairs place) }
+    {
+        (self.pairs[place * 2], self.pairs[place * 2 + 1])
+    }
 
-fn find<'a>(pairs: &'a [u64], links: &'a [u16], count: usize, need: u64, low: u64) -> Option<usize>
-    requires { Index pairs.now links.now count }
-    ensures { FoundAt pairs.now count need low result }
-{
-    let mut cursor = usize::from(links[bucket(need, low)]);
-    while cursor != 0 {
-        let place = cursor - 1;
-        if holds(pairs, place, need, low) {
-            return Some(place);
+    fn find(&self, need: u64, low: u64) -> Option<usize>
+        requires { Linked self.now }
+        ensures { FoundAt self.now need low result }
+    {
+        let mut cursor = usize::from(self.links[bucket(need, low)]);
+        while cursor != 0 {
+            let place = cursor - 1;
+            if self.pair(place) == (need, low) {
+                return Some(place);
+            }
+            cursor = usize::from(self.links[4096 + place]);
         }
-        cursor = usize::from(links[4096 + place]);
+        None
     }
-    None
-}
 
-// Puts a pair at the next place.
-fn push(pairs: &mut [u64], links: &mut [u16], count: usize, need: u64, low: u64)
-    requires index { Index pairs.old links.old count }
-    requires count_lt_capacity { count < capacity }
-    ensures { Pushed pairs.old count need low pairs.new links.new }
-{
-    let b = bucket(need, low);
-    let link = (count + 1) as u16;
-    pairs[count * 2] = need;
-    pairs[count * 2 + 1] = low;
-    links[4096 + count] = links[b];
-    links[b] = link;
-}
+    // Puts a pair at the next place.
+    fn push(&mut self, need: u64, low: u64)
+        requires { Linked self.old × (self.old.count < capacity) }
+        ensures { Pushed self.old need low self.new }
+    {
+        let b = bucket(need, low);
+        self.pairs[self.count * 2] = need;
+        self.pairs[self.count * 2 + 1] = low;
+        self.links[4096 + self.count] = self.links[b];
+        self.count += 1;
+        self.links[b] = self.count as u16;
+    }
 
-// The place of a pair, which is put at the next place where it stands nowhere yet; none where there is no room for it.
-pub(crate) fn place(
-    pairs: &mut [u64],
-    links: &mut [u16],
-    count: usize,
-    need: u64,
-    low: u64,
-) -> Option<usize>
-    requires { Index pairs.old links.old count }
-    ensures { PlaceOf pairs.old count need low pairs.new links.new result }
-{
-    if let Some(p) = find(pairs, links, count, need, low) {
-        return Some(p);
+    // The place of a pair, which is put at the next place where it stands nowhere yet; none where there is no room for it.
+    pub(crate) fn place(&mut self, need: u64, low: u64) -> Option<usize>
+        requires { Linked self.old }
+        ensures { PlaceOf self.old need low self.new result }
+    {
+        if let Some(p) = self.find(need, low) {
+            return Some(p);
+        }
+        if self.count == 4096 {
+            return None;
+        }
+        self.push(need, low);
+        Some(self.count - 1)
     }
-    if count == 4096 {
-        return None;
+
+    // Takes every pair out.
+    pub(crate) fn clear(&mut self)
+        ensures { Linked self.new × (self.new.count ≡ 0) }
+    {
+        self.links.fill(0);
+        self.count = 0;
     }
-    push(pairs, links, count, need, low);
-    Some(count)
 }

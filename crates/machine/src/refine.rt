@@ -2,11 +2,11 @@
 // first occur. The table has a word for each situation and letter.
 ghost use Rattle.std.specs.Prelude.{◌+◌, ◌*◌, ◌^◌, ◌<◌, ◌≤◌, ◌≡◌, length};
 ghost use Rattle.operations.specs.Alphabet.{stride};
-ghost use Rattle.machine.specs.inner.Index.{capacity, Scratch};
+ghost use Rattle.machine.specs.inner.Index.{capacity};
 ghost use Rattle.machine.specs.inner.Refine.{Begun, NamedIf, RoundedIf, RefinedIf};
 ghost use Rattle.machine.specs.inner.Words.{words, Slot, tabled, seen, key};
 
-use crate::index;
+use crate::index::Index;
 use operations::alphabet::STRIDE;
 
 // What a word shows: nothing where it refuses, else its output and its target's class.
@@ -35,27 +35,23 @@ fn split_by<'a>(
     table: &'a [u32],
     classes: &'a [u8],
     finer: &mut [u8],
-    pairs: &mut [u64],
-    links: &mut [u16],
+    index: &mut Index,
     k: usize,
     a: usize,
 ) -> Option<usize>
     requires k_le_capacity { (k ≤ capacity) × (a < stride) × (length table.now ≡ words) }
-    requires classes_len { (length classes.now ≡ capacity) × (length finer.old ≡ capacity) × Scratch pairs.old links.old }
+    requires classes_len { (length classes.now ≡ capacity) × (length finer.old ≡ capacity) }
     ensures { NamedIf k (key table.now classes.now a) finer.new result }
 {
-    links.fill(0);
-    let mut count = 0;
+    index.clear();
     for i in 0..k {
-        let named = key_of(table, classes, i, a);
-        let q = index::place(pairs, links, count, named, 0)?;
+        let q = index.place(key_of(table, classes, i, a), 0)?;
         if q == 255 {
             return None;
         }
         finer[i] = q as u8;
-        count = count.max(q + 1);
     }
-    Some(count)
+    Some(index.count)
 }
 
 // One round: splits the classes by one letter after another, and gives their count, unless they are more than 255.
@@ -63,20 +59,18 @@ fn split_all<'a>(
     table: &'a [u32],
     classes: &mut [u8],
     finer: &mut [u8],
-    pairs: &mut [u64],
-    links: &mut [u16],
+    index: &mut Index,
     k: usize,
     letters: usize,
     began: usize,
 ) -> Option<usize>
     requires table_len { (length table.now ≡ words) × (length finer.old ≡ capacity) }
-    requires scratch { Scratch pairs.old links.old }
     requires begun { Begun (tabled letters table.now) k classes.old began }
     ensures { RoundedIf (tabled letters table.now) k began classes.new result }
 {
     let mut count = began;
     for a in 0..letters {
-        count = split_by(table, classes, finer, pairs, links, k, a)?;
+        count = split_by(table, classes, finer, index, k, a)?;
         classes.copy_from_slice(finer);
     }
     Some(count)
@@ -95,13 +89,14 @@ pub(crate) fn refine<'a>(
     ensures { RefinedIf (tabled letters table.now) k classes.new result }
 {
     let mut finer = [0u8; 4096];
-    let mut pairs = [0u64; 8192];
-    let mut links = [0u16; 8192];
+    let mut index = Index {
+        pairs: [0u64; 8192],
+        links: [0u16; 8192],
+        count: 0,
+    };
     let mut count = 1;
     loop {
-        let more = split_all(
-            table, classes, &mut finer, &mut pairs, &mut links, k, letters, count,
-        )?;
+        let more = split_all(table, classes, &mut finer, &mut index, k, letters, count)?;
         if more == count {
             return Some(more);
         }

@@ -7,9 +7,10 @@ use Rattle.mealy.specs.inner.Classes.{States}
 use Rattle.machine.specs.declared.machine.Outcome.{Outcome}
 use Rattle.machine.specs.Shim.{shim_of}
 use Rattle.machine.specs.Generated.{Built}
+use Rattle.machine.specs.declared.index.Index.{Index}
 use Rattle.machine.specs.inner.Index.{capacity}
 use Rattle.machine.specs.inner.Words.{words, tabled}
-use Rattle.machine.specs.inner.Explore.{Explored, Blank}
+use Rattle.machine.specs.inner.Explore.{Explored, Surveyed, Blank}
 
 -- no more fences on either side than an operation can name
 pub record Few (ups fences : List ℕ) : Type 0 where
@@ -26,18 +27,16 @@ pub record Unused (table : List ℕ) : Type 0 where
   pub blank : Blank table
 
 -- candidate (i, a) is the next to be answered
-pub record Candidate (s : Shim) (ups fences pairs links table : List ℕ) (count i a : ℕ) : Type 0 where
+pub record Candidate (s : Shim) (ups fences : List ℕ) (x : Index) (table : List ℕ) (i a : ℕ) : Type 0 where
   pub few : Few ups fences
-  pub explored : Explored (shim_of s ups fences) pairs links table count i a
-  pub here : i < count
+  pub explored : Explored (shim_of s ups fences) x table i a
+  pub here : i < x.count
   pub letter : a < letters_with (length ups)
 
 -- every situation has been found, and the table has its answers
 pub record Searched (s : Shim) (ups fences table : List ℕ) (count : ℕ) : Type 0 where
   pub few : Few ups fences
-  pub pairs : List ℕ
-  pub links : List ℕ
-  pub explored : Explored (shim_of s ups fences) pairs links table count count 0
+  pub surveyed : Surveyed (shim_of s ups fences) table count
 
 -- and every state, as a class of them
 pub record Sorted (s : Shim) (ups fences table classes : List ℕ) (count states : ℕ) : Type 0 where

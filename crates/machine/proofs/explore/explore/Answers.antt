@@ -7,7 +7,7 @@ use Rattle.machine.proofs.Zeros.{new_index}
 use Rattle.machine.proofs.explore.explore.Goals as goal
 
 pub begin-requires : goal.begin-requires
-begin-requires c = new_index
+begin-requires c = (new_index, refl)
 
 pub explore_all-requires : goal.explore_all-requires
 explore_all-requires c = record { explored = explored_start (search rules) (search rules) refl; few = search rules }

@@ -8,7 +8,7 @@ use Rattle.machine.proofs.explore.explore_all.Given as goal
 
 abbrev pub invariant-loop-i : goal.invariant-loop-i
 invariant-loop-i l =
-    Explored (shim_of l.shim l.ups l.fences) l.pairs l.links l.table l.count l.i 0
+    Explored (shim_of l.shim l.ups l.fences) l.index l.table l.i 0
 
 abbrev pub decreases-loop-i : goal.decreases-loop-i
 decreases-loop-i l =

@@ -5,4 +5,4 @@ use Rattle.machine.proofs.explore.explore_row.Given as goal
 
 abbrev pub invariant-loop-a : goal.invariant-loop-a
 invariant-loop-a l =
-    Rowing (shim_of l.shim l.ups l.fences) l.began l.pairs l.links l.table l.count l.i l.a
+    Rowing (shim_of l.shim l.ups l.fences) l.initial.index.count l.index l.table l.i l.a

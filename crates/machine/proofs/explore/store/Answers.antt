@@ -3,4 +3,4 @@ use mathlib.Core.Path.{refl}
 use Rattle.machine.proofs.explore.store.Goals as goal
 
 pub returns : goal.returns
-returns c = record { place = _; placed = c.in_ok-q.ensures; word = refl; now = c.max.ensures }
+returns c = record { place = _; placed = c.in_ok-q.ensures; word = refl }

@@ -6,7 +6,7 @@ use Rattle.machine.proofs.refine.refine.Given as goal
 
 abbrev pub invariant-loop-more : goal.invariant-loop-more
 invariant-loop-more l =
-    Refining l.letters l.table l.k l.classes l.finer l.pairs l.links l.count
+    Refining l.letters l.table l.k l.classes l.finer l.count
 
 abbrev pub decreases-loop-more : goal.decreases-loop-more
 decreases-loop-more l = 256 - l.count

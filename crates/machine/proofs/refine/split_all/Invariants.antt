@@ -4,4 +4,4 @@ use Rattle.machine.proofs.refine.split_all.Given as goal
 
 abbrev pub invariant-loop-a : goal.invariant-loop-a
 invariant-loop-a l =
-    Going l.letters l.table l.k l.began l.classes l.finer l.pairs l.links l.count l.a
+    Going l.letters l.table l.k l.began l.classes l.finer l.count l.a

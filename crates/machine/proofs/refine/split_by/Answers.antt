@@ -3,7 +3,7 @@ use Rattle.machine.proofs.Naming.{splitting_start, splitting_next, splitting_cro
 use Rattle.machine.proofs.refine.split_by.Goals as goal
 
 pub loop-i-init : goal.loop-i-init
-loop-i-init c = splitting_start _ _ _ (search rules) c.requires.classes_len.2 (c.fill.ensures.after (λ y e. e))
+loop-i-init c = search (splitting_start, rules)
 
 pub returns-then-q-eq255 : goal.returns-then-q-eq255
 returns-then-q-eq255 c = search (splitting_crowded, c.in_ok-q.ensures, rules)

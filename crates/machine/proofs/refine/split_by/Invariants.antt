@@ -6,4 +6,4 @@ use Rattle.machine.proofs.refine.split_by.Given as goal
 
 abbrev pub invariant-loop-i : goal.invariant-loop-i
 invariant-loop-i l =
-    Splitting (key l.table l.classes l.a) l.k l.finer l.pairs l.links l.count l.i
+    Splitting (key l.table l.classes l.a) l.k l.finer l.index l.i
