@@ -4,9 +4,9 @@ use mathlib.Core.Path.{◌≡◌, refl, sym, ◌∙◌, ap, ap₂}
 use mathlib.Core.List.{List, [], ◌∷◌}
 use native.Mathlib.Omega.{arith}
 use Rattle.rule.specs.declared.situation.Situation.{Situation}
-use Rattle.rule.specs.declared.way.Shim.{Shim}
+use Rattle.machine.specs.declared.step.Sides.{Sides}
 use Rattle.rule.specs.Situation.{fresh}
-use Rattle.rule.specs.Sides.{upstream_of, target_of}
+use Rattle.machine.specs.inner.Sides.{upstream, target, ruled, answered}
 use Rattle.mealy.specs.Runs.{Machine}
 use Rattle.mealy.proofs.Runs.{untaken}
 use Rattle.mealy.proofs.Exploring.{explore_start, explore_row}
@@ -16,7 +16,6 @@ use Rattle.machine.specs.inner.Words.{Slot, row}
 use Rattle.machine.specs.inner.Explore.{situation_at, Output, Explored, meant, Notable, Noted, passed, barred, Onward, OnwardIf, Surveyed, Fresh}
 use Rattle.machine.specs.inner.Stages.{Unused, Candidate}
 use Rattle.std.specs.Prelude.{Option, Some, None, ⊤}
-use Rattle.machine.specs.Shim.{letter_answer, shim_of}
 use Rattle.machine.proofs.Letters.{letter_output, answered_step}
 use Rattle.machine.proofs.Exploration.{pair, output_byte, explored_refused, explored_stored}
 
@@ -83,7 +82,7 @@ explored_start {m} {table = table} y t e =
       outputs = λ p o j d. absurd (untaken (rw (t.blank.blank p) at d));
     }
 
-pub candidate_slot : {s : Shim} {ups fences : List ℕ} {x : Index} {table : List ℕ} {i a : ℕ} → Candidate s ups fences x table i a
+pub candidate_slot : {s : Sides} {x : Index} {table : List ℕ} {i a : ℕ} → Candidate s x table i a
     → Slot table i a
 candidate_slot c =
     record {
@@ -93,23 +92,23 @@ candidate_slot c =
     }
 
 -- the answer to a candidate, which a step from its situation gives
-module _ {s : Shim} {ups fences : List ℕ} {x : Index} {table : List ℕ} {i a : ℕ} (c : Candidate s ups fences x table i a)
+module _ {s : Sides} {x : Index} {table : List ℕ} {i a : ℕ} (c : Candidate s x table i a)
     {t : Situation} (here : t ≡ situation_at x.pairs i) where
   abbrev Gives : Option (ℕ × Situation) → Type 0
-  Gives y = meant y ≡ letter_answer s.way (upstream_of s ups) (target_of s fences) t a
+  Gives y = meant y ≡ answered s t a
 
   output : (o : ℕ) (next : Situation) → Gives (Some (o, next)) → Output o
-  output o next e = letter_output s.way (upstream_of s ups) (target_of s fences) t a o next c.few.few_fences (sym e)
+  output o next e = letter_output s.shim.way (upstream s) (target s) t a o next c.few.few_fences (sym e)
 
-  step : (y : Option (ℕ × Situation)) → Gives y → (shim_of s ups fences).step (situation_at x.pairs i) a ≡ meant y
-  step y e = answered_step s.way (upstream_of s ups) (target_of s fences) c.letter here (sym e)
+  step : (y : Option (ℕ × Situation)) → Gives y → (ruled s).step (situation_at x.pairs i) a ≡ meant y
+  step y e = answered_step s.shim.way (upstream s) (target s) c.letter here (sym e)
 
   pub notable : {y : Option (ℕ × Situation)} → Gives y → Notable y
   notable e = record { byte = λ o next f. output_byte o (output o next (sym (ap meant f) ∙ e)) }
 
   -- once it is noted, the next candidate's turn has come
   pub candidate_noted : {y : Option (ℕ × Situation)} → Gives y → {x' : Index} {table' : List ℕ} {r : Option ⊤} → Noted x table i a y x' table' r
-      → OnwardIf (shim_of s ups fences) x.count x' table' i (a + 1) r
+      → OnwardIf (ruled s) x.count x' table' i (a + 1) r
   candidate_noted e (passed {o} {next} f z) =
       let given : Gives (Some (o, next)) = sym (ap meant f) ∙ e in
       explored_stored c.explored c.here c.letter (omega (arith, c.few.few_ups)) (step (Some (o, next)) given) (output o next given) _ _ _ z

@@ -6,11 +6,11 @@ use native.Mathlib.Omega.{arith}
 use lib.ListN.{length, replicate, length-replicate}
 use Rattle.answers.specs.declared.Refusal.{Refusal}
 use Rattle.operations.specs.Alphabet.{stride, letters_with}
-use Rattle.rule.specs.declared.way.Shim.{Shim}
 use Rattle.rule.specs.declared.situation.Situation.{Situation}
 use Rattle.mealy.specs.Runs.{Machine}
 use Rattle.mealy.specs.Arrivals.{More}
-use Rattle.machine.specs.Shim.{shim_of}
+use Rattle.machine.specs.declared.step.Sides.{Sides}
+use Rattle.machine.specs.inner.Sides.{ruled}
 use Rattle.machine.specs.Generated.{named, Unmade, crowded, overfull, roomless}
 use Rattle.machine.specs.inner.Index.{capacity}
 use Rattle.machine.specs.inner.Words.{tabled}
@@ -19,7 +19,7 @@ use Rattle.machine.specs.inner.Stages.{Few, Unused, Searched, Sorted}
 use Rattle.machine.proofs.Finish.{few_situations, begun, crowd_states, described}
 use Rattle.machine.proofs.Zeros.{zeros_blank, at_most_sixteen}
 
-pub few_named : {own its : List ℕ} (ups fences : List ℕ) → own ≡ named ups → its ≡ named fences → Few own its
+pub few_named : {s : Sides} (ups fences : List ℕ) → s.ups.now ≡ named ups → s.fences.now ≡ named fences → Few s
 few_named ups fences e f = record { few_ups = at_most_sixteen ups e; few_fences = at_most_sixteen fences f }
 
 pub new_table : Unused (replicate 81920 0)
@@ -29,22 +29,22 @@ new_table = record { whole = length-replicate {A = ℕ} 81920 0; blank = zeros_b
 pub survey_crowded : {m : Machine Situation ℕ} → More m ◌≡◌ capacity → (rows : List ℕ) → Unmade m rows Refusal.TooManySituations
 survey_crowded x rows = crowded x
 
-module _ {s : Shim} {ups fences table : List ℕ} {count : ℕ} (x : Searched s ups fences table count) where
+module _ {s : Sides} {table : List ℕ} {count : ℕ} (x : Searched s table count) where
   -- all of one class
-  pub searched_begun : Begun (tabled (letters_with (length ups)) table) count (replicate 4096 0) 1
+  pub searched_begun : Begun (tabled (letters_with (length s.ups.now)) table) count (replicate 4096 0) 1
   searched_begun =
       begun x.surveyed (length-replicate {A = ℕ} 4096 0) (zeros_blank 4096) (omega (arith, x.few.few_ups))
 
   -- more states than a byte can number
-  pub searched_overfull : Crowd (tabled (letters_with (length ups)) table) count
-      → (rows : List ℕ) → Unmade (shim_of s ups fences) rows Refusal.TooManyStates
+  pub searched_overfull : Crowd (tabled (letters_with (length s.ups.now)) table) count
+      → (rows : List ℕ) → Unmade (ruled s) rows Refusal.TooManyStates
   searched_overfull y rows = overfull (few_situations x.surveyed) (crowd_states x.surveyed y)
 
-  pub searched_sorted : {classes : List ℕ} {r : ℕ} → Refined (tabled (letters_with (length ups)) table) count classes r
-      → length classes ≡ capacity → Sorted s ups fences table classes count r
+  pub searched_sorted : {classes : List ℕ} {r : ℕ} → Refined (tabled (letters_with (length s.ups.now)) table) count classes r
+      → length classes ≡ capacity → Sorted s table classes count r
   searched_sorted y size = record { searched = x; all_classes = size; few_states = y.few; states_found = y.states }
 
 -- no room for the rows
-pub sorted_roomless : {s : Shim} {ups fences table classes : List ℕ} {count states : ℕ} → Sorted s ups fences table classes count states
-    → {rows : List ℕ} → length rows < states * stride → Unmade (shim_of s ups fences) rows Refusal.BufferTooSmall
+pub sorted_roomless : {s : Sides} {table classes : List ℕ} {count states : ℕ} → Sorted s table classes count states
+    → {rows : List ℕ} → length rows < states * stride → Unmade (ruled s) rows Refusal.BufferTooSmall
 sorted_roomless x short = roomless (few_situations x.searched.surveyed) x.few_states (described x) short

@@ -1,17 +1,17 @@
 // Exploring breadth first from the fresh situation, letters in order: each unseen situation is put at the next place, and each candidate's word
 // into the table.
 ghost use Rattle.std.specs.Prelude.{◌+◌, ◌*◌, ◌<◌, ◌≡◌, length};
-ghost use Rattle.machine.specs.Shim.{shim_of};
 ghost use Rattle.machine.specs.inner.Index.{capacity, Linked};
 ghost use Rattle.machine.specs.inner.Words.{Slot};
 ghost use Rattle.machine.specs.inner.Explore.{situation_at, Explored, StoredIf, Notable, Noted, OnwardIf, SurveyedIf, Fresh};
+ghost use Rattle.machine.specs.inner.Sides.{ruled};
 ghost use Rattle.machine.specs.inner.Stages.{Few, Unused, Candidate};
 
 use crate::index::Index;
 use crate::step;
+use crate::step::Sides;
 use operations::alphabet::{ACCESSES, STRIDE};
 use rule::situation::Situation;
-use rule::way::Shim;
 use tables::table::Table;
 
 fn situation_at(index: &Index, p: usize) -> Situation
@@ -64,37 +64,28 @@ fn note(
 
 // Answers candidate (i, a); none where the situations are more than 4096.
 fn explore_letter<'a>(
-    shim: Shim,
-    ups: &'a [u64],
-    fences: &'a [u64],
+    sides: Sides<'a>,
     index: &mut Index,
     table: &mut [u32],
     i: usize,
     a: usize,
 ) -> Option<()>
-    requires { Candidate shim ups.now fences.now index.old table.old i a }
-    ensures { OnwardIf (shim_of shim ups.now fences.now) index.old.count index.new table.new i (a + 1) result }
+    requires { Candidate sides index.old table.old i a }
+    ensures { OnwardIf (ruled sides.entry) index.old.count index.new table.new i (a + 1) result }
 {
     let s = situation_at(index, i);
-    let answered = step::answer(shim, ups, fences, s, a);
+    let answered = step::answer(sides, s, a);
     note(index, table, i, a, answered)
 }
 
 // Answers every letter at situation i; none where the situations are more than 4096.
-fn explore_row<'a>(
-    shim: Shim,
-    ups: &'a [u64],
-    fences: &'a [u64],
-    index: &mut Index,
-    table: &mut [u32],
-    i: usize,
-) -> Option<()>
-    requires explored { Explored (shim_of shim ups.now fences.now) index.old table.old i 0 }
-    requires few { Few ups.now fences.now × (i < index.old.count) }
-    ensures { OnwardIf (shim_of shim ups.now fences.now) index.old.count index.new table.new (i + 1) 0 result }
+fn explore_row<'a>(sides: Sides<'a>, index: &mut Index, table: &mut [u32], i: usize) -> Option<()>
+    requires explored { Explored (ruled sides) index.old table.old i 0 }
+    requires few { Few sides × (i < index.old.count) }
+    ensures { OnwardIf (ruled sides.entry) index.old.count index.new table.new (i + 1) 0 result }
 {
-    for a in 0..ACCESSES + ups.len() {
-        explore_letter(shim, ups, fences, index, table, i, a)?;
+    for a in 0..ACCESSES + sides.ups.len() {
+        explore_letter(sides, index, table, i, a)?;
     }
     Some(())
 }
@@ -109,34 +100,23 @@ fn begin(index: &mut Index)
 }
 
 // Answers every letter at every situation, and gives the count of situations; none where they are more than 4096.
-fn explore_all<'a>(
-    shim: Shim,
-    ups: &'a [u64],
-    fences: &'a [u64],
-    index: &mut Index,
-    table: &mut [u32],
-) -> Option<usize>
-    requires explored { Explored (shim_of shim ups.now fences.now) index.old table.old 0 0 }
-    requires few { Few ups.now fences.now }
-    ensures { SurveyedIf (shim_of shim ups.now fences.now) table.new result }
+fn explore_all<'a>(sides: Sides<'a>, index: &mut Index, table: &mut [u32]) -> Option<usize>
+    requires explored { Explored (ruled sides) index.old table.old 0 0 }
+    requires few { Few sides }
+    ensures { SurveyedIf (ruled sides.entry) table.new result }
 {
     let mut i = 0;
     while i < index.count {
-        explore_row(shim, ups, fences, index, table, i)?;
+        explore_row(sides, index, table, i)?;
         i += 1;
     }
     Some(index.count)
 }
 
 // Explores from nothing, in an index of its own.
-pub(crate) fn explore<'a>(
-    shim: Shim,
-    ups: &'a [u64],
-    fences: &'a [u64],
-    table: &mut [u32],
-) -> Option<usize>
-    requires { Few ups.now fences.now × Unused table.old }
-    ensures { SurveyedIf (shim_of shim ups.now fences.now) table.new result }
+pub(crate) fn explore<'a>(sides: Sides<'a>, table: &mut [u32]) -> Option<usize>
+    requires { Few sides × Unused table.old }
+    ensures { SurveyedIf (ruled sides.entry) table.new result }
 {
     let mut index = Index {
         pairs: [0u64; 8192],
@@ -144,5 +124,5 @@ pub(crate) fn explore<'a>(
         count: 0,
     };
     begin(&mut index);
-    explore_all(shim, ups, fences, &mut index, table)
+    explore_all(sides, &mut index, table)
 }
