@@ -73,10 +73,10 @@ module _ (table : List ℕ) (i a w : ℕ) (fits : i * stride + a < length table)
 abbrev pub pair : ℕ → ℕ → Situation
 pair n l = record { need = record { packed = n }; low = record { packed = l } }
 
-pair_situation : (pairs : List ℕ) (t : Situation) (p : ℕ) → Pair pairs t.need.packed t.low.packed p → situation_at pairs p ≡ t
+pair_situation : (pairs : List (ℕ × ℕ)) (t : Situation) (p : ℕ) → Pair pairs t.need.packed t.low.packed p → situation_at pairs p ≡ t
 pair_situation pairs t p h = ap₂ pair h.0 h.1
 
-situation_pair : (pairs : List ℕ) (t : Situation) (p : ℕ) → situation_at pairs p ≡ t → Pair pairs t.need.packed t.low.packed p
+situation_pair : (pairs : List (ℕ × ℕ)) (t : Situation) (p : ℕ) → situation_at pairs p ≡ t → Pair pairs t.need.packed t.low.packed p
 situation_pair pairs t p e = (ap (λ (s : Situation). s.need.packed) e, ap (λ (s : Situation). s.low.packed) e)
 
 module _ {m : Machine Situation ℕ} {ix : Index} {table : List ℕ} {i a : ℕ} (x : Explored m ix table i a) (here : i < ix.count)

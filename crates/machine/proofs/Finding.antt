@@ -1,12 +1,13 @@
 -- How a search of the index goes down its chain, and what it has found at its end. Assumes nothing.
-use Prim.Native.Nat.{ℕ, ◌+◌, ◌*◌, ◌-◌, ◌≤◌, ◌<◌}
-use mathlib.Core.Path.{◌≡◌, sym, ◌∙◌}
+use Prim.Native.Nat.{ℕ, ◌+◌, ◌-◌, ◌≤◌, ◌<◌}
+use mathlib.Core.Path.{◌≡◌, sym, ◌∙◌, ap}
 use mathlib.Core.Logic.{⊎_elim}
 use native.Mathlib.Omega.{arith}
-use lib.ListN.{length, get_or, replicate, get_or-replicate}
+use lib.ListN.{length, replicate, length-replicate, get_or-replicate}
+use Rattle.ground.specs.Bytes.{at}
 use Rattle.mealy.proofs.Numbers.{split_last}
 use Rattle.machine.specs.declared.index.Index.{Index}
-use Rattle.machine.specs.inner.Index.{capacity, bucket_of, bucket_at, next_at, Linked, Pair, Absent}
+use Rattle.machine.specs.inner.Index.{capacity, bucket_of, bucket_at, Linked, Pair, Absent}
 use Rattle.machine.proofs.Links.{same_bucket}
 
 -- a search at a link: the pair stands at no place above it
@@ -17,7 +18,7 @@ pub record Seeking (x : Index) (need low link : ℕ) : Type 0 where
   pub below : (p : ℕ) → p < x.count → Pair x.pairs need low p → p < link
 
 pub seek_start : {x : Index} {need low b link : ℕ} → Linked x → (b ≡ bucket_of need low) × (b < capacity)
-    → link ≡ get_or x.links b 0 → Seeking x need low link
+    → link ≡ at x.heads b → Seeking x need low link
 seek_start {x} {need} {low} {b} {link} y h e =
     let l = y.head b h.1 in
     record {
@@ -28,7 +29,7 @@ seek_start {x} {need} {low} {b} {link} y h e =
     }
 
 pub seek_next : {x : Index} {need low link : ℕ} → Seeking x need low link
-    → (p next : ℕ) → (link ≡ 0 → ⊥) → p ≡ link - 1 → (Pair x.pairs need low p → ⊥) → next ≡ next_at x.links p
+    → (p next : ℕ) → (link ≡ 0 → ⊥) → p ≡ link - 1 → (Pair x.pairs need low p → ⊥) → next ≡ at x.nexts p
     → Seeking x need low next
 seek_next {x} {need} {low} {link} y p next more at unlike e =
     let l = y.linked.next p (omega (arith, y.within, more)) in
@@ -51,19 +52,19 @@ seek_end y p h r = omega (arith, y.below p h r)
 
 -- the next link is lower
 pub seek_less : {x : Index} {need low link : ℕ} → Seeking x need low link
-    → (p next : ℕ) → (link ≡ 0 → ⊥) → p ≡ link - 1 → next ≡ next_at x.links p → next < link
+    → (p next : ℕ) → (link ≡ 0 → ⊥) → p ≡ link - 1 → next ≡ at x.nexts p → next < link
 seek_less y p next more at e = omega (arith, (y.linked.next p (omega (arith, more, y.within))).within, more)
 
 -- no links
-pub nothing_linked : {x : Index} → (length x.pairs ≡ 2 * capacity) × (length x.links ≡ 2 * capacity) → x.links ≡ replicate (2 * capacity) 0
-    → x.count ≡ 0 → Linked x
-nothing_linked {x} s e n =
+pub nothing_linked : {x : Index} → length x.pairs ≡ capacity → length x.nexts ≡ capacity → x.heads ≡ replicate capacity 0 → x.count ≡ 0 → Linked x
+nothing_linked {x} s t e n =
     record {
       fits = omega arith;
-      all_pairs = s.0;
-      all_links = s.1;
+      all_pairs = s;
+      all_heads = ap length e ∙ length-replicate {A = ℕ} capacity 0;
+      all_nexts = t;
       head = λ b h.
-          rw (e, get_or-replicate {A = ℕ} (2 * capacity) b 0 0 (omega arith))
+          rw (e, get_or-replicate {A = ℕ} capacity b 0 0 h)
           (record { within = omega arith; own = λ p q. absurd (omega arith); last = λ p q. absurd (omega arith) });
       next = λ p h. absurd (omega arith);
     }

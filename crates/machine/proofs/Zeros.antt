@@ -10,8 +10,8 @@ use Rattle.machine.specs.inner.Explore.{Blank}
 use Rattle.machine.proofs.Finding.{nothing_linked}
 
 -- an index as it is made
-pub new_index : Linked (record { pairs = replicate 8192 0; links = replicate 8192 0; count = 0 })
-new_index = nothing_linked (length-replicate {A = ℕ} 8192 0, length-replicate {A = ℕ} 8192 0) refl refl
+pub new_index : Linked (record { pairs = replicate 4096 (0, 0); heads = replicate 4096 0; nexts = replicate 4096 0; count = 0 })
+new_index = nothing_linked (length-replicate {A = ℕ × ℕ} 4096 (0, 0)) (length-replicate {A = ℕ} 4096 0) refl refl
 
 pub zeros_blank : (n : ℕ) → Blank (replicate n 0)
 zeros_blank n =

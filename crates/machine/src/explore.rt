@@ -119,8 +119,9 @@ pub(crate) fn explore<'a>(sides: Sides<'a>, table: &mut [u32]) -> Option<usize>
     ensures { SurveyedIf (ruled sides.entry) table.new result }
 {
     let mut index = Index {
-        pairs: [0u64; 8192],
-        links: [0u16; 8192],
+        pairs: [(0, 0); 4096],
+        heads: [0; 4096],
+        nexts: [0; 4096],
         count: 0,
     };
     begin(&mut index);

@@ -1,13 +1,14 @@
 // Pairs of numbers, in the order in which they were put, found again by a hash: the places of one bucket are a chain whose links fall, so a
-// search ends where its cursor does. The pair at place p is pairs[2 p] and pairs[2 p + 1]; bucket b's chain begins at links[b] and goes on from
-// place p at links[4096 + p].
+// search ends where its cursor does. Bucket b's chain begins at heads[b] and goes on from place p at nexts[p]. A link is one more than a place,
+// or 0 where the chain ends.
 ghost use Rattle.std.specs.Prelude.{◌+◌, ◌*◌, ◌<◌, ◌≡◌, length};
-ghost use Rattle.machine.specs.inner.Index.{bucket_of, capacity, need_at, low_at, Linked, FoundAt, Pushed, PlaceOf};
+ghost use Rattle.machine.specs.inner.Index.{bucket_of, capacity, pair_at, Linked, FoundAt, Pushed, PlaceOf};
 
 #[derive(Drop)]
 pub(crate) struct Index {
-    pub(crate) pairs: [u64; 8192],
-    pub(crate) links: [u16; 8192],
+    pub(crate) pairs: [(u64, u64); 4096],
+    pub(crate) heads: [u16; 4096],
+    pub(crate) nexts: [u16; 4096],
     pub(crate) count: usize,
 }
 
@@ -21,22 +22,22 @@ impl Index {
     // The pair at a place.
     pub(crate) fn pair(&self, place: usize) -> (u64, u64)
         requires { place < capacity }
-        ensures { result ≡ (need_at self.now.pairs place, low_at self.now.pairs place) }
+        ensures { result ≡ pair_at self.now.pairs place }
     {
-        (self.pairs[place * 2], self.pairs[place * 2 + 1])
+        self.pairs[place]
     }
 
     fn find(&self, need: u64, low: u64) -> Option<usize>
         requires { Linked self.now }
         ensures { FoundAt self.now need low result }
     {
-        let mut cursor = usize::from(self.links[bucket(need, low)]);
+        let mut cursor = usize::from(self.heads[bucket(need, low)]);
         while cursor != 0 {
             let place = cursor - 1;
             if self.pair(place) == (need, low) {
                 return Some(place);
             }
-            cursor = usize::from(self.links[4096 + place]);
+            cursor = usize::from(self.nexts[place]);
         }
         None
     }
@@ -47,11 +48,10 @@ impl Index {
         ensures { Pushed self.old need low self.new }
     {
         let b = bucket(need, low);
-        self.pairs[self.count * 2] = need;
-        self.pairs[self.count * 2 + 1] = low;
-        self.links[4096 + self.count] = self.links[b];
+        self.pairs[self.count] = (need, low);
+        self.nexts[self.count] = self.heads[b];
         self.count += 1;
-        self.links[b] = self.count as u16;
+        self.heads[b] = self.count as u16;
     }
 
     // The place of a pair, which is put at the next place where it stands nowhere yet; none where there is no room for it.
@@ -73,7 +73,7 @@ impl Index {
     pub(crate) fn clear(&mut self)
         ensures { Linked self.new × (self.new.count ≡ 0) }
     {
-        self.links.fill(0);
+        self.heads.fill(0);
         self.count = 0;
     }
 }

@@ -90,8 +90,9 @@ pub(crate) fn refine<'a>(
 {
     let mut finer = [0u8; 4096];
     let mut index = Index {
-        pairs: [0u64; 8192],
-        links: [0u16; 8192],
+        pairs: [(0, 0); 4096],
+        heads: [0; 4096],
+        nexts: [0; 4096],
         count: 0,
     };
     let mut count = 1;

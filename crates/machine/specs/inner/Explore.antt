@@ -13,7 +13,7 @@ use Rattle.machine.specs.inner.Words.{words, answer, row}
 use Rattle.machine.specs.inner.Writing.{Narrow}
 
 -- the situation at a place
-abbrev pub situation_at : List ℕ → ℕ → Situation
+abbrev pub situation_at : List (ℕ × ℕ) → ℕ → Situation
 situation_at pairs p = record { need = record { packed = need_at pairs p }; low = record { packed = low_at pairs p } }
 
 -- an output is a target fence's number, or 255 for none

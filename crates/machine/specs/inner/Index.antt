@@ -1,5 +1,6 @@
 -- Pairs of numbers, found again by their bucket. A link is one more than a place, or 0 where the chain ends.
 use Rattle.std.specs.Prelude.{ℕ, ◌+◌, ◌*◌, ◌%◌, ◌≤◌, ◌<◌, ◌≡◌, List, length, get_or, Option, Some, None}
+use Rattle.ground.specs.Bytes.{at}
 use Rattle.machine.specs.declared.index.Index.{Index}
 
 abbrev pub capacity : ℕ
@@ -8,25 +9,21 @@ capacity = 4096
 abbrev pub bucket_of : ℕ → ℕ → ℕ
 bucket_of need low = (need % 65521 + low % 65537 * 3) % capacity
 
--- the pair at place p, in one array
-abbrev pub need_at : List ℕ → ℕ → ℕ
-need_at pairs p = get_or pairs (p * 2) 0
+-- the pair at place p
+abbrev pub pair_at : List (ℕ × ℕ) → ℕ → ℕ × ℕ
+pair_at pairs p = get_or pairs p (0, 0)
 
-abbrev pub low_at : List ℕ → ℕ → ℕ
-low_at pairs p = get_or pairs (p * 2 + 1) 0
+abbrev pub need_at : List (ℕ × ℕ) → ℕ → ℕ
+need_at pairs p = (pair_at pairs p).0
 
-abbrev pub bucket_at : List ℕ → ℕ → ℕ
+abbrev pub low_at : List (ℕ × ℕ) → ℕ → ℕ
+low_at pairs p = (pair_at pairs p).1
+
+abbrev pub bucket_at : List (ℕ × ℕ) → ℕ → ℕ
 bucket_at pairs p = bucket_of (need_at pairs p) (low_at pairs p)
 
--- the link to the last place of bucket b, and the link of place p to the one before it, in one array
-abbrev pub head_at : List ℕ → ℕ → ℕ
-head_at links b = get_or links b 0
-
-abbrev pub next_at : List ℕ → ℕ → ℕ
-next_at links p = get_or links (capacity + p) 0
-
 -- a link to the last place of bucket b below n, in that none of the bucket stands above it
-pub record Link (pairs : List ℕ) (n b link : ℕ) : Type 0 where
+pub record Link (pairs : List (ℕ × ℕ)) (n b link : ℕ) : Type 0 where
   pub within : link ≤ n
   pub own : (p : ℕ) → link ≡ p + 1 → bucket_at pairs p ≡ b
   pub last : (p : ℕ) → p < n → bucket_at pairs p ≡ b → p < link
@@ -34,13 +31,14 @@ pub record Link (pairs : List ℕ) (n b link : ℕ) : Type 0 where
 -- as many pairs as are counted, with the links to them
 pub record Linked (x : Index) : Type 0 where
   pub fits : x.count ≤ capacity
-  pub all_pairs : length x.pairs ≡ 2 * capacity
-  pub all_links : length x.links ≡ 2 * capacity
-  pub head : (b : ℕ) → b < capacity → Link x.pairs x.count b (head_at x.links b)
-  pub next : (p : ℕ) → p < x.count → Link x.pairs p (bucket_at x.pairs p) (next_at x.links p)
+  pub all_pairs : length x.pairs ≡ capacity
+  pub all_heads : length x.heads ≡ capacity
+  pub all_nexts : length x.nexts ≡ capacity
+  pub head : (b : ℕ) → b < capacity → Link x.pairs x.count b (at x.heads b)
+  pub next : (p : ℕ) → p < x.count → Link x.pairs p (bucket_at x.pairs p) (at x.nexts p)
 
 -- the pair stands at a place
-abbrev pub Pair : List ℕ → ℕ → ℕ → ℕ → Type 0
+abbrev pub Pair : List (ℕ × ℕ) → ℕ → ℕ → ℕ → Type 0
 Pair pairs need low p = (need_at pairs p ≡ need) × (low_at pairs p ≡ low)
 
 -- the pair stands at no place
