@@ -106,6 +106,7 @@ fn explore_all<'a>(sides: Sides<'a>, index: &mut Index, table: &mut [u32]) -> Op
     ensures { SurveyedIf (ruled sides.entry) table.new result }
 {
     let mut i = 0;
+    // The count grows as the rows are answered.
     while i < index.count {
         explore_row(sides, index, table, i)?;
         i += 1;
@@ -118,12 +119,7 @@ pub(crate) fn explore<'a>(sides: Sides<'a>, table: &mut [u32]) -> Option<usize>
     requires { Few sides × Unused table.old }
     ensures { SurveyedIf (ruled sides.entry) table.new result }
 {
-    let mut index = Index {
-        pairs: [(0, 0); 4096],
-        heads: [0; 4096],
-        nexts: [0; 4096],
-        count: 0,
-    };
+    let mut index = Index::new();
     begin(&mut index);
     explore_all(sides, &mut index, table)
 }

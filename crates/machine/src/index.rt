@@ -6,9 +6,9 @@ ghost use Rattle.machine.specs.inner.Index.{bucket_of, capacity, pair_at, Linked
 
 #[derive(Drop)]
 pub(crate) struct Index {
-    pub(crate) pairs: [(u64, u64); 4096],
-    pub(crate) heads: [u16; 4096],
-    pub(crate) nexts: [u16; 4096],
+    pairs: [(u64, u64); 4096],
+    heads: [u16; 4096],
+    nexts: [u16; 4096],
     pub(crate) count: usize,
 }
 
@@ -19,6 +19,18 @@ fn bucket(need: u64, low: u64) -> usize
 }
 
 impl Index {
+    // No pairs.
+    pub(crate) fn new() -> Self
+        ensures { Linked result × (result.count ≡ 0) }
+    {
+        Index {
+            pairs: [(0, 0); 4096],
+            heads: [0; 4096],
+            nexts: [0; 4096],
+            count: 0,
+        }
+    }
+
     // The pair at a place.
     pub(crate) fn pair(&self, place: usize) -> (u64, u64)
         requires { place < capacity }
@@ -32,6 +44,7 @@ impl Index {
         ensures { FoundAt self.now need low result }
     {
         let mut cursor = usize::from(self.heads[bucket(need, low)]);
+        // Down the chain, whose links fall.
         while cursor != 0 {
             let place = cursor - 1;
             if self.pair(place) == (need, low) {

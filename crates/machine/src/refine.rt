@@ -89,12 +89,7 @@ pub(crate) fn refine<'a>(
     ensures { RefinedIf (tabled letters table.now) k classes.new result }
 {
     let mut finer = [0u8; 4096];
-    let mut index = Index {
-        pairs: [(0, 0); 4096],
-        heads: [0; 4096],
-        nexts: [0; 4096],
-        count: 0,
-    };
+    let mut index = Index::new();
     let mut count = 1;
     loop {
         let more = split_all(table, classes, &mut finer, &mut index, k, letters, count)?;
