@@ -23,21 +23,20 @@ pub record Rowing (m : Machine Situation ℕ) (began : ℕ) (x : Index) (table :
   pub explored : Explored m x table i a
   pub here : i < x.count
   pub grown : began ≤ x.count
-  pub upto : a ≤ m.letters
 
 pub rowing_start : {m : Machine Situation ℕ} {x : Index} {table : List ℕ} {i : ℕ} → Explored m x table i 0 → i < x.count
     → Rowing m x.count x table i 0
-rowing_start y h = record { explored = y; here = h; grown = omega arith; upto = omega arith }
+rowing_start y h = record { explored = y; here = h; grown = omega arith }
 
 pub rowing_next : {m : Machine Situation ℕ} {began : ℕ} {x : Index} {table : List ℕ} {i a : ℕ} → Rowing m began x table i a → a < m.letters
     → {x' : Index} {table' : List ℕ} → Onward m x.count x' table' i (a + 1) → Rowing m began x' table' i (a + 1)
 rowing_next w l y =
-    record { explored = y.explored; here = omega (arith, w.here, y.grown); grown = omega (arith, w.grown, y.grown); upto = omega arith }
+    record { explored = y.explored; here = omega (arith, w.here, y.grown); grown = omega (arith, w.grown, y.grown) }
 
-pub rowing_end : {m : Machine Situation ℕ} {began : ℕ} {x : Index} {table : List ℕ} {i a : ℕ} → Rowing m began x table i a → m.letters ≤ a
+pub rowing_end : {m : Machine Situation ℕ} {began : ℕ} {x : Index} {table : List ℕ} {i a : ℕ} → Rowing m began x table i a → a ≤ m.letters → m.letters ≤ a
     → Onward m began x table (i + 1) 0
-rowing_end {m} {i = i} {a = a} w h =
-    let e : a ≡ m.letters = omega (arith, w.upto) in
+rowing_end {m} {i = i} {a = a} w h l =
+    let e : a ≡ m.letters = omega arith in
     let y = w.explored in
     record {
       grown = w.grown;

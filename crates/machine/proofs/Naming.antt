@@ -116,12 +116,11 @@ placed_low (added h absent there) = omega arith
 pub record Splitting (key : ℕ → ℕ) (k : ℕ) (classes : List ℕ) (ix : Index) (i : ℕ) : Type 0 where
   pub naming : Naming key classes ix i
   pub few : ix.count ≤ 255
-  pub here : i ≤ k
 
 pub splitting_start : {ix : Index} (key : ℕ → ℕ) (k : ℕ) (classes : List ℕ) → length classes ≡ capacity → Linked ix × (ix.count ≡ 0)
     → Splitting key k classes ix 0
 splitting_start key k classes r y =
-    record { naming = naming_start key classes r y; few = omega (arith, y.1); here = omega arith }
+    record { naming = naming_start key classes r y; few = omega (arith, y.1) }
 
 module _ {key : ℕ → ℕ} {k : ℕ} {classes : List ℕ} {ix : Index} {i : ℕ} (x : Splitting key k classes ix i) (fits : k ≤ capacity) where
   pub splitting_next : i < k → {n : ℕ} → n ≡ key i → {ix' : Index} {q : ℕ} → Placed ix n 0 ix' q → (q ≡ 255 → ⊥)
@@ -130,7 +129,6 @@ module _ {key : ℕ → ℕ} {k : ℕ} {classes : List ℕ} {ix : Index} {i : �
       record {
         naming = naming_next x.naming (omega arith) e placed;
         few = omega (arith, placed_count placed, placed_low placed, x.few, unlike);
-        here = omega arith;
       }
 
   -- a 256th key
@@ -150,7 +148,7 @@ module _ {key : ℕ → ℕ} {k : ℕ} {classes : List ℕ} {ix : Index} {i : �
   pub splitting_room : {n : ℕ} → Full ix n 0 → Crowded k key
   splitting_room f = absurd (omega (arith, f.full, x.few))
 
-  pub splitting_end : k ≤ i → Named k key classes ix.count
-  splitting_end l =
-      let e : k ≡ i = omega (arith, x.here) in
+  pub splitting_end : i ≤ k → k ≤ i → Named k key classes ix.count
+  splitting_end h l =
+      let e : k ≡ i = omega arith in
       record { few = x.few; numbering = rw e x.naming.numbering; by_key = rw e x.naming.by_key }

@@ -16,13 +16,12 @@ pub record Going (letters : ℕ) (table : List ℕ) (k began : ℕ) (classes fin
   pub begun : Begun (tabled letters table) k classes count
   pub spare : length finer ≡ capacity
   pub round : Round (tabled letters table) k began (at classes) count a
-  pub here : a ≤ letters
 
 pub going_start : {letters : ℕ} {table : List ℕ} {k : ℕ} {classes finer : List ℕ} {began : ℕ}
     → Begun (tabled letters table) k classes began → length finer ≡ capacity
     → Going letters table k began classes finer began 0
 going_start x f =
-    record { begun = x; spare = f; round = round_start x.closed x.numbering x.coarse; here = omega arith }
+    record { begun = x; spare = f; round = round_start x.closed x.numbering x.coarse }
 
 module _ {letters : ℕ} {table : List ℕ} {k began : ℕ} {classes finer : List ℕ} {count a : ℕ}
     (x : Going letters table k began classes finer count a) (more : a < letters) where
@@ -50,7 +49,6 @@ module _ {letters : ℕ} {table : List ℕ} {k began : ℕ} {classes finer : Lis
             };
         spare = size ∙ x.spare;
         round = round_next x.begun.closed x.round split y.numbering;
-        here = omega arith;
       })
 
   -- a 256th class
@@ -66,10 +64,10 @@ module _ {letters : ℕ} {table : List ℕ} {k began : ℕ} {classes finer : Lis
       }
 
 pub going_end : {letters : ℕ} {table : List ℕ} {k began : ℕ} {classes finer : List ℕ} {count a : ℕ}
-    → Going letters table k began classes finer count a → letters ≤ a
+    → Going letters table k began classes finer count a → a ≤ letters → letters ≤ a
     → Rounded (tabled letters table) k began classes count
-going_end {letters} {a = a} x h =
-    let e : a ≡ letters = omega (arith, x.here) in
+going_end {letters} {a = a} x h l =
+    let e : a ≡ letters = omega arith in
     record { few = x.begun.few; round = rw e at x.round }
 
 -- rounds after rounds
