@@ -12,7 +12,7 @@ use Rattle.mealy.specs.inner.Classes.{Numbering}
 use Rattle.mealy.proofs.Numbers.{split_last}
 use Rattle.mealy.proofs.Numbering.{numbering_none, numbering_known, numbering_new}
 use Rattle.machine.specs.declared.index.Index.{Index}
-use Rattle.machine.specs.inner.Index.{capacity, need_at, Linked, Pair, Absent, Pushed, Placed, known, added, Full}
+use Rattle.machine.specs.inner.Index.{capacity, need_at, Linked, Pair, Absent, Pushed, Placed, known, added}
 use Rattle.machine.specs.inner.Refine.{ByKey, Named, Crowded}
 
 -- the first i things are numbered
@@ -143,10 +143,6 @@ module _ {key : ℕ → ℕ} {k : ℕ} {classes : List ℕ} {ix : Index} {i : �
         numbering = rw m at y.numbering;
         by_key = y.by_key;
       }
-
-  -- there is room for as many keys as are looked for
-  pub splitting_room : {n : ℕ} → Full ix n 0 → Crowded k key
-  splitting_room f = absurd (omega (arith, f.full, x.few))
 
   pub splitting_end : i ≤ k → k ≤ i → Named k key classes ix.count
   splitting_end h l =

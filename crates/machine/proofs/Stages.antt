@@ -6,12 +6,9 @@ use native.Mathlib.Omega.{arith}
 use lib.ListN.{length, replicate, length-replicate}
 use Rattle.answers.specs.declared.Refusal.{Refusal}
 use Rattle.operations.specs.Alphabet.{stride, letters_with}
-use Rattle.rule.specs.declared.situation.Situation.{Situation}
-use Rattle.mealy.specs.Runs.{Machine}
-use Rattle.mealy.specs.Arrivals.{More}
 use Rattle.machine.specs.declared.step.Sides.{Sides}
 use Rattle.machine.specs.inner.Sides.{ruled}
-use Rattle.machine.specs.Generated.{named, Unmade, crowded, overfull, roomless}
+use Rattle.machine.specs.Generated.{named, Unmade, overfull, roomless}
 use Rattle.machine.specs.inner.Index.{capacity}
 use Rattle.machine.specs.inner.Words.{tabled}
 use Rattle.machine.specs.inner.Refine.{Begun, Crowd, Refined}
@@ -24,10 +21,6 @@ few_named ups fences e f = record { few_ups = at_most_sixteen ups e; few_fences 
 
 pub new_table : Unused (replicate 81920 0)
 new_table = record { whole = length-replicate {A = ℕ} 81920 0; blank = zeros_blank 81920 }
-
--- more situations than there is room for
-pub survey_crowded : {m : Machine Situation ℕ} → More m ◌≡◌ capacity → (rows : List ℕ) → Unmade m rows Refusal.TooManySituations
-survey_crowded x rows = crowded x
 
 module _ {s : Sides} {table : List ℕ} {count : ℕ} (x : Searched s table count) where
   -- all of one class
