@@ -33,8 +33,8 @@ pub rowing_next : {m : Machine Situation ℕ} {began : ℕ} {x : Index} {table :
 rowing_next w l y =
     record { explored = y.explored; here = omega (arith, w.here, y.grown); grown = omega (arith, w.grown, y.grown) }
 
-pub rowing_end : {m : Machine Situation ℕ} {began : ℕ} {x : Index} {table : List ℕ} {i a : ℕ} → Rowing m began x table i a → a ≤ m.letters → m.letters ≤ a
-    → Onward m began x table (i + 1) 0
+pub rowing_end : {m : Machine Situation ℕ} {began : ℕ} {x : Index} {table : List ℕ} {i a : ℕ} → Rowing m began x table i a → a ≤ m.letters
+    → m.letters ≤ a → Onward m began x table (i + 1) 0
 rowing_end {m} {i = i} {a = a} w h l =
     let e : a ≡ m.letters = omega arith in
     let y = w.explored in
