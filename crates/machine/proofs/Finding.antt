@@ -1,67 +1,70 @@
 -- How a search of the index goes down its chain, and what it has found at its end. Assumes nothing.
-use Rattle.std.proofs.Common.{Option, Some, None}
 use Prim.Native.Nat.{ℕ, ◌+◌, ◌-◌, ◌≤◌, ◌<◌}
-use mathlib.Core.Path.{◌≡◌, refl, sym, ◌∙◌}
+use mathlib.Core.Path.{◌≡◌, sym, ◌∙◌, ap}
 use mathlib.Core.Logic.{⊎_elim}
-use mathlib.Core.List.{List}
 use native.Mathlib.Omega.{arith}
-use lib.ListN.{get_or}
+use lib.ListN.{length, replicate, length-replicate, get_or-replicate}
+use Rattle.ground.specs.Bytes.{at}
 use Rattle.mealy.proofs.Numbers.{split_last}
+use Rattle.machine.specs.declared.index.Index.{Index}
+use Rattle.machine.specs.inner.Index.{capacity, bucket_of, bucket_at, Linked, Pair, Absent}
 use Rattle.machine.proofs.Links.{same_bucket}
-use Rattle.machine.specs.inner.Index.{capacity, bucket_of, bucket_at, next_at, Index, Pair, Absent, FoundAt, there, nowhere, Placed, known}
 
 -- a search at a link: the pair stands at no place above it
-pub record Seeking (pairs links : List ℕ) (count need low link : ℕ) : Type 0 where
-  pub index : Index pairs links count
-  pub within : link ≤ count
-  pub own : (p : ℕ) → link ≡ p + 1 → bucket_at pairs p ≡ bucket_of need low
-  pub below : (p : ℕ) → p < count → Pair pairs need low p → p < link
+pub record Seeking (x : Index) (need low link : ℕ) : Type 0 where
+  pub linked : Linked x
+  pub within : link ≤ x.count
+  pub own : (p : ℕ) → link ≡ p + 1 → bucket_at x.pairs p ≡ bucket_of need low
+  pub below : (p : ℕ) → p < x.count → Pair x.pairs need low p → p < link
 
-pub seek_start : {pairs links : List ℕ} {count need low b link : ℕ} → Index pairs links count → (b ≡ bucket_of need low) × (b < capacity)
-    → link ≡ get_or links b 0 → Seeking pairs links count need low link
-seek_start {pairs} {links} {count} {need} {low} {b} {link} x h e =
-    let l = x.head b h.1 in
+pub seek_start : {x : Index} {need low b link : ℕ} → Linked x → (b ≡ bucket_of need low) × (b < capacity)
+    → link ≡ at x.heads b → Seeking x need low link
+seek_start {x} {need} {low} {b} {link} y h e =
+    let l = y.head b h.1 in
     record {
-      index = x;
+      linked = y;
       within = rw e l.within;
       own = λ p d. l.own p (sym e ∙ d) ∙ h.0;
-      below = λ p q r. rw e (l.last p q (same_bucket pairs need low p r ∙ sym h.0));
+      below = λ p q r. rw e (l.last p q (same_bucket x.pairs need low p r ∙ sym h.0));
     }
 
-pub seek_next : {pairs links : List ℕ} {count need low link : ℕ} → Seeking pairs links count need low link
-    → (p next : ℕ) → (link ≡ 0 → ⊥) → p ≡ link - 1 → (Pair pairs need low p → ⊥) → next ≡ next_at links p
-    → Seeking pairs links count need low next
-seek_next {pairs} {links} {count} {need} {low} {link} x p next more at unlike e =
-    let l = x.index.next p (omega (arith, x.within, more)) in
+pub seek_next : {x : Index} {need low link : ℕ} → Seeking x need low link
+    → (p next : ℕ) → (link ≡ 0 → ⊥) → p ≡ link - 1 → (Pair x.pairs need low p → ⊥) → next ≡ at x.nexts p
+    → Seeking x need low next
+seek_next {x} {need} {low} {link} y p next more at unlike e =
+    let l = y.linked.next p (omega (arith, y.within, more)) in
     let d : link ≡ p + 1 = omega (arith, more) in
-    let here : bucket_at pairs p ≡ bucket_of need low = x.own p d in
+    let here : bucket_at x.pairs p ≡ bucket_of need low = y.own p d in
     record {
-      index = x.index;
-      within = omega (arith, l.within, x.within);
+      linked = y.linked;
+      within = omega (arith, l.within, y.within);
       own = λ q f. l.own q (sym e ∙ f) ∙ here;
       below = λ q h r.
-          let here-or-below : q < p + 1 = rw d at (x.below q h r) in
-          rw e (l.last q (other q r here-or-below) (same_bucket pairs need low q r ∙ sym here));
+          let here-or-below : q < p + 1 = rw d at (y.below q h r) in
+          rw e (l.last q (other q r here-or-below) (same_bucket x.pairs need low q r ∙ sym here));
     }
   where
-    other : (q : ℕ) → Pair pairs need low q → q < p + 1 → q < p
+    other : (q : ℕ) → Pair x.pairs need low q → q < p + 1 → q < p
     other q r h = ⊎_elim (λ l. l) (λ (f : q ≡ p). absurd (unlike (rw f at r))) (split_last q p h)
 
-pub seek_end : {pairs links : List ℕ} {count need low : ℕ} → Seeking pairs links count need low 0 → Absent pairs count need low
-seek_end x p h r = omega (arith, x.below p h r)
-
--- what a search has found, and what it has not
-pub found_known : {pairs links : List ℕ} {count need low : ℕ} {r : Option ℕ} {p : ℕ} → FoundAt pairs count need low r → r ≡ Some p
-    → Index pairs links count → Placed pairs count need low pairs links p
-found_known {r = r} {p = p} (there q f h here) e x = let one : q ≡ p = cc in known (rw one at h) (rw one at here) refl x
-found_known {r = r} {p = p} (nowhere f absent) e x = let z : ◌≡◌ {A = ℕ} 0 1 = cc in absurd (omega arith)
-
-pub found_absent : {pairs : List ℕ} {count need low : ℕ} {r : Option ℕ} → FoundAt pairs count need low r → r ≡ None
-    → Absent pairs count need low
-found_absent {r = r} (there q f h here) e = let z : ◌≡◌ {A = ℕ} 0 1 = cc in absurd (omega arith)
-found_absent (nowhere f absent) e = absent
+pub seek_end : {x : Index} {need low : ℕ} → Seeking x need low 0 → Absent x need low
+seek_end y p h r = omega (arith, y.below p h r)
 
 -- the next link is lower
-pub seek_less : {pairs links : List ℕ} {count need low link : ℕ} → Seeking pairs links count need low link
-    → (p next : ℕ) → (link ≡ 0 → ⊥) → p ≡ link - 1 → next ≡ next_at links p → next < link
-seek_less x p next more at e = omega (arith, (x.index.next p (omega (arith, more, x.within))).within, more)
+pub seek_less : {x : Index} {need low link : ℕ} → Seeking x need low link
+    → (p next : ℕ) → (link ≡ 0 → ⊥) → p ≡ link - 1 → next ≡ at x.nexts p → next < link
+seek_less y p next more at e = omega (arith, (y.linked.next p (omega (arith, more, y.within))).within, more)
+
+-- no links
+pub nothing_linked : {x : Index} → length x.pairs ≡ capacity → length x.nexts ≡ capacity → x.heads ≡ replicate capacity 0 → x.count ≡ 0 → Linked x
+nothing_linked {x} s t e n =
+    record {
+      fits = omega arith;
+      all_pairs = s;
+      all_heads = ap length e ∙ length-replicate {A = ℕ} capacity 0;
+      all_nexts = t;
+      head = λ b h.
+          rw (e, get_or-replicate {A = ℕ} capacity b 0 0 h)
+          (record { within = omega arith; own = λ p q. absurd (omega arith); last = λ p q. absurd (omega arith) });
+      next = λ p h. absurd (omega arith);
+    }

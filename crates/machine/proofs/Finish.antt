@@ -11,11 +11,10 @@ use lib.ListN.{length}
 use Rattle.ground.specs.Bytes.{at}
 use Rattle.operations.specs.Alphabet.{stride, letters_with}
 use Rattle.rule.specs.declared.situation.Situation.{Situation}
-use Rattle.rule.specs.declared.way.Shim.{Shim}
-use Rattle.rule.specs.Sides.{upstream_of, target_of}
 use Rattle.rule.specs.Rule.{way_number}
 use Rattle.mealy.specs.Runs.{taken, Machine, Same}
 use Rattle.mealy.specs.Arrivals.{Entry, Described, More, AtMost, Exactly}
+use Rattle.mealy.specs.inner.Exploring.{Exploring}
 use Rattle.mealy.specs.inner.Classes.{Numbering, classed, States}
 use Rattle.mealy.proofs.Unique.{equal, arrivals_at_most, arrivals_exactly}
 use Rattle.mealy.proofs.Exploring.{explore_end}
@@ -27,19 +26,30 @@ use Rattle.machine.specs.inner.Words.{answer, row, tabled}
 use Rattle.machine.specs.Rows.{decoded}
 use Rattle.machine.specs.inner.Writing.{state_word, state_entry, RowsWritten}
 use Rattle.machine.specs.inner.Refine.{Begun, Crowd}
-use Rattle.machine.specs.inner.Explore.{Explored, Output, Blank}
-use Rattle.machine.specs.Shim.{shim_of}
+use Rattle.machine.specs.inner.Explore.{Explored, Surveyed, Output, Blank}
+use Rattle.machine.specs.declared.step.Sides.{Sides}
+use Rattle.machine.specs.inner.Sides.{upstream, target, ruled}
 use Rattle.machine.specs.Generated.{ProperWord, refusing, passing, Making}
 use Rattle.machine.specs.inner.Stages.{Sorted}
 use Rattle.machine.proofs.Letters.{shim_step, letter_fence}
 use Rattle.machine.proofs.Keys.{word_refused, word_taken}
 
-module _ {m : Machine Situation ℕ} {pairs links table : List ℕ} {count : ℕ} (x : Explored m pairs links table count count 0) where
+end_described : {m : Machine Situation ℕ} (table : List ℕ) {streams : List (List ℕ)} {count : ℕ} → length streams ≡ count
+    → Exploring m streams (row table) count 0 → Described m ◌≡◌ count (row table)
+end_described {m} table e x = rw e at (explore_end m (rw (← e) at x))
+
+module _ {m : Machine Situation ℕ} {table : List ℕ} {count : ℕ} (z : Surveyed m table count) where
+  abbrev explored : Explored m z.index table count 0
+  explored = z.explored
+
+  size : length explored.streams ≡ count
+  size = explored.size ∙ z.all
+
   pub found : Described m ◌≡◌ count (row table)
-  found = rw x.size at (explore_end m (rw (← x.size) at x.exploring))
+  found = end_described table size explored.exploring
 
   pub few_situations : AtMost m ◌≡◌ 4096
-  few_situations = arrivals_at_most m ◌≡◌ equal found.first 4096 (omega (arith, found.count, x.index.fits))
+  few_situations = arrivals_at_most m ◌≡◌ equal found.first 4096 (omega (arith, found.count, explored.linked.fits, z.all))
 
   all_situations : Exactly m ◌≡◌ count
   all_situations = arrivals_exactly m ◌≡◌ equal found.first count found.count
@@ -48,11 +58,11 @@ module _ {m : Machine Situation ℕ} {pairs links table : List ℕ} {count : ℕ
   begun {classes} size blank le =
       record {
         closed = rows_closed m found;
-        fits = x.index.fits;
+        fits = omega (arith, explored.linked.fits, z.all);
         letters = le;
         few = omega arith;
         room = size;
-        numbering = numbering_one (omega (arith, x.exploring.some, x.size)) (λ i h. blank.blank i);
+        numbering = numbering_one (omega (arith, explored.exploring.some, size)) (λ i h. blank.blank i);
         coarse = λ i j h l s. blank.blank i ∙ sym (blank.blank j);
       }
 
@@ -95,15 +105,15 @@ module _ (classes : List ℕ) (v : ℕ) (output : (o j : ℕ) → answer v ≡ t
           passing (rw p.0 (fence _ _ (word_taken v r))) (rw p.1 (next _ _ (word_taken v r)))
 
 -- the states, of a shim with its fences
-module _ {s : Shim} {ups fences table classes : List ℕ} {count n : ℕ} (z : Sorted s ups fences table classes count n) where
+module _ {s : Sides} {table classes : List ℕ} {count n : ℕ} (z : Sorted s table classes count n) where
   abbrev m : Machine Situation ℕ
-  m = shim_of s ups fences
+  m = ruled s
 
   abbrev letters : ℕ
-  letters = letters_with (length ups)
+  letters = letters_with (length s.ups.now)
 
-  abbrev x : Explored m z.searched.pairs z.searched.links table count count 0
-  x = z.searched.explored
+  abbrev x : Surveyed m table count
+  x = z.searched.surveyed
 
   abbrev y : States (tabled letters table) count (at classes) n
   y = z.states_found
@@ -125,18 +135,18 @@ module _ {s : Shim} {ups fences table classes : List ℕ} {count n : ℕ} (z : S
     byte o j e = omega (arith, below o j e, z.few_states)
 
     word_decoded : decoded (state_word classes (word q a)) ≡ classed (at classes) (row table (first q) a)
-    word_decoded = state_decoded classes (word q a) (x.outputs (first q * stride + a)) byte
+    word_decoded = state_decoded classes (word q a) (x.explored.outputs (first q * stride + a)) byte
 
-    fence : (o j : ℕ) → answer (word q a) ≡ taken o j → (o < length fences) ⊎ (o ≡ 255)
+    fence : (o j : ℕ) → answer (word q a) ≡ taken o j → (o < length s.fences.now) ⊎ (o ≡ 255)
     fence o j e =
         let entry = (found x).rows (first q) a (y.numbering.first q h).0 l in
         let got : Entry m ◌≡◌ (found x).streams (first q) a (taken o j) = rw e at entry in
-        letter_fence s.way (upstream_of s ups) (target_of s fences) _ a o got.0
-        (sym (shim_step s.way (upstream_of s ups) (target_of s fences) _ a l) ∙ got.1)
+        letter_fence s.shim.way (upstream s) (target s) _ a o got.0
+        (sym (shim_step s.shim.way (upstream s) (target s) _ a l) ∙ got.1)
 
-    word_proper : ProperWord (length fences) n (state_word classes (word q a))
+    word_proper : ProperWord (length s.fences.now) n (state_word classes (word q a))
     word_proper =
-        let outputs = x.outputs (first q * stride + a) in state_proper classes (word q a) outputs byte (length fences) n fence below
+        let outputs = x.explored.outputs (first q * stride + a) in state_proper classes (word q a) outputs byte (length s.fences.now) n fence below
 
   -- the states, where there is no room for their rows
   pub described : Described m (Same m) n (λ q a. classed (at classes) (row table (first q) a))
@@ -145,9 +155,9 @@ module _ {s : Shim} {ups fences table classes : List ℕ} {count n : ℕ} (z : S
   -- the machine, where its rows have been written
   pub making : {rows rows' : List ℕ} → ((v : Numbering count (at classes) n)
       → RowsWritten rows n (λ q. state_entry table classes letters (v.firsts q)) rows') → n * stride ≤ length rows
-      → {number : ℕ} → number ≡ way_number s.way
-      → Making m s.way (length ups) (length fences) rows
-      (record { way = number; situations = count; states = n; ups = length ups; targets = length fences }) rows'
+      → {number : ℕ} → number ≡ way_number s.shim.way
+      → Making m s.shim.way (length s.ups.now) (length s.fences.now) rows
+      (record { way = number; situations = count; states = n; ups = length s.ups.now; targets = length s.fences.now }) rows'
   making {rows} {rows'} write room e =
       record {
         way_number_is = e;

@@ -13,7 +13,6 @@ use Rattle.machine.specs.inner.Writing.{RowWritten, RowsWritten, FirstWritten, l
 
 -- of the first i situations, those that are the first of their classes, which are the classes below q, have their rows written
 pub record Writing {k : ℕ} {class : ℕ → ℕ} {n : ℕ} (x : Numbering k class n) (f : ℕ → ℕ → ℕ) (rows rows' : List ℕ) (q i : ℕ) : Type 0 where
-  pub here : i ≤ k
   pub low : q ≤ n
   pub past : (p : ℕ) → p < q → x.firsts p < i
   pub ahead : q < n → i ≤ x.firsts q
@@ -37,7 +36,6 @@ module _ {k : ℕ} {class : ℕ → ℕ} {n : ℕ} (x : Numbering k class n) {f 
   pub writing_start : Writing x f rows rows 0 0
   writing_start =
       record {
-        here = omega arith;
         low = omega arith;
         past = λ p h. absurd (omega arith);
         ahead = λ h. omega arith;
@@ -58,7 +56,6 @@ module _ {k : ℕ} {class : ℕ → ℕ} {n : ℕ} (x : Numbering k class n) {f 
   writing_later : {rows' : List ℕ} {q i : ℕ} → Writing x f rows rows' q i → i < k → (class i ≡ q → ⊥) → Writing x f rows rows' q (i + 1)
   writing_later {q = q} {i = i} w h unlike =
       record {
-        here = omega arith;
         low = w.low;
         past = λ p l. omega (arith, w.past p l);
         ahead = λ l. omega (arith, w.ahead l, other l);
@@ -73,7 +70,6 @@ module _ {k : ℕ} {class : ℕ → ℕ} {n : ℕ} (x : Numbering k class n) {f 
   writing_first {q = q} {i = i} w h e y =
       let g = is_first w h e in
       record {
-        here = omega arith;
         low = omega (arith, g.0);
         past = λ p l. ⊎_elim (λ (r : p < q). omega (arith, w.past p r)) (λ (r : p ≡ q). rw r (omega (arith, g.1))) (split_last p q l);
         ahead = λ l. omega (arith, firsts_rise x q (q + 1) (omega arith) l, g.1);

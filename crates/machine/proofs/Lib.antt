@@ -1,6 +1,5 @@
 pub mod Links
 pub mod Finding
-pub mod Filled
 pub mod Naming
 pub mod Keys
 pub mod Rounds

@@ -1,57 +1,43 @@
 -- From stage to stage of generating: what one finds is what the next is entered with, or is the refusal. Assumes nothing.
-use Prim.Native.Nat.{ℕ, ◌*◌, ◌≤◌, ◌<◌}
+use Prim.Native.Nat.{ℕ, ◌*◌, ◌<◌}
 use mathlib.Core.Path.{◌≡◌}
 use mathlib.Core.List.{List}
 use native.Mathlib.Omega.{arith}
 use lib.ListN.{length, replicate, length-replicate}
 use Rattle.answers.specs.declared.Refusal.{Refusal}
 use Rattle.operations.specs.Alphabet.{stride, letters_with}
-use Rattle.rule.specs.declared.way.Shim.{Shim}
-use Rattle.rule.specs.declared.situation.Situation.{Situation}
-use Rattle.mealy.specs.Runs.{Machine}
-use Rattle.machine.specs.Shim.{shim_of}
-use Rattle.machine.specs.Generated.{named, Unmade, crowded, overfull, roomless}
+use Rattle.machine.specs.declared.step.Sides.{Sides}
+use Rattle.machine.specs.inner.Sides.{ruled}
+use Rattle.machine.specs.Generated.{named, Unmade, overfull, roomless}
 use Rattle.machine.specs.inner.Index.{capacity}
 use Rattle.machine.specs.inner.Words.{tabled}
-use Rattle.machine.specs.inner.Refine.{Begun, Refined}
-use Rattle.machine.specs.inner.Explore.{Surveyed}
+use Rattle.machine.specs.inner.Refine.{Begun, Crowd, Refined}
 use Rattle.machine.specs.inner.Stages.{Few, Unused, Searched, Sorted}
-use Rattle.machine.proofs.Breadth.{too_many, explored_next}
-use Rattle.machine.proofs.Rounds.{refined_crowd, refined_states}
 use Rattle.machine.proofs.Finish.{few_situations, begun, crowd_states, described}
 use Rattle.machine.proofs.Zeros.{zeros_blank, at_most_sixteen}
 
-pub few_named : {own its : List ℕ} (ups fences : List ℕ) → own ≡ named ups → its ≡ named fences → Few own its
+pub few_named : {s : Sides} (ups fences : List ℕ) → s.ups.now ≡ named ups → s.fences.now ≡ named fences → Few s
 few_named ups fences e f = record { few_ups = at_most_sixteen ups e; few_fences = at_most_sixteen fences f }
 
 pub new_table : Unused (replicate 81920 0)
 new_table = record { whole = length-replicate {A = ℕ} 81920 0; blank = zeros_blank 81920 }
 
--- more situations than there is room for
-pub survey_crowded : {m : Machine Situation ℕ} {table : List ℕ} {r : ℕ} → Surveyed m table r → 4096 < r → (rows : List ℕ)
-    → Unmade m rows Refusal.TooManySituations
-survey_crowded x h rows = crowded (too_many x.ended h)
-
-pub survey_searched : {s : Shim} {ups fences table : List ℕ} {r : ℕ} → Few ups fences → Surveyed (shim_of s ups fences) table r → r ≤ 4096
-    → Searched s ups fences table r
-survey_searched few x h = record { few = few; pairs = x.pairs; links = x.links; explored = explored_next x.ended h }
-
-module _ {s : Shim} {ups fences table : List ℕ} {count : ℕ} (x : Searched s ups fences table count) where
+module _ {s : Sides} {table : List ℕ} {count : ℕ} (x : Searched s table count) where
   -- all of one class
-  pub searched_begun : Begun (tabled (letters_with (length ups)) table) count (replicate 4096 0) 1
+  pub searched_begun : Begun (tabled (letters_with (length s.ups.now)) table) count (replicate 4096 0) 1
   searched_begun =
-      begun x.explored (length-replicate {A = ℕ} 4096 0) (zeros_blank 4096) (omega (arith, x.few.few_ups))
+      begun x.surveyed (length-replicate {A = ℕ} 4096 0) (zeros_blank 4096) (omega (arith, x.few.few_ups))
 
   -- more states than a byte can number
-  pub searched_overfull : {classes : List ℕ} {r : ℕ} → Refined (tabled (letters_with (length ups)) table) count classes r → 255 < r
-      → (rows : List ℕ) → Unmade (shim_of s ups fences) rows Refusal.TooManyStates
-  searched_overfull y h rows = overfull (few_situations x.explored) (crowd_states x.explored (refined_crowd y h))
+  pub searched_overfull : Crowd (tabled (letters_with (length s.ups.now)) table) count
+      → (rows : List ℕ) → Unmade (ruled s) rows Refusal.TooManyStates
+  searched_overfull y rows = overfull (few_situations x.surveyed) (crowd_states x.surveyed y)
 
-  pub searched_sorted : {classes : List ℕ} {r : ℕ} → Refined (tabled (letters_with (length ups)) table) count classes r → r ≤ 255
-      → length classes ≡ capacity → Sorted s ups fences table classes count r
-  searched_sorted y h size = record { searched = x; all_classes = size; few_states = h; states_found = refined_states y h }
+  pub searched_sorted : {classes : List ℕ} {r : ℕ} → Refined (tabled (letters_with (length s.ups.now)) table) count classes r
+      → length classes ≡ capacity → Sorted s table classes count r
+  searched_sorted y size = record { searched = x; all_classes = size; few_states = y.few; states_found = y.states }
 
 -- no room for the rows
-pub sorted_roomless : {s : Shim} {ups fences table classes : List ℕ} {count states : ℕ} → Sorted s ups fences table classes count states
-    → {rows : List ℕ} → length rows < states * stride → Unmade (shim_of s ups fences) rows Refusal.BufferTooSmall
-sorted_roomless x short = roomless (few_situations x.searched.explored) x.few_states (described x) short
+pub sorted_roomless : {s : Sides} {table classes : List ℕ} {count states : ℕ} → Sorted s table classes count states
+    → {rows : List ℕ} → length rows < states * stride → Unmade (ruled s) rows Refusal.BufferTooSmall
+sorted_roomless x short = roomless (few_situations x.searched.surveyed) x.few_states (described x) short

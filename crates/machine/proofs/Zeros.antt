@@ -1,20 +1,17 @@
 -- Arrays of zeros. Assumes nothing.
 use Prim.Native.Nat.{ℕ, ◌≤◌}
-use mathlib.Core.Path.{◌≡◌, sym, ap}
+use mathlib.Core.Path.{◌≡◌, refl}
 use mathlib.Core.List.{List}
 use native.Mathlib.Omega.{arith}
 use native.Mathlib.Decide.{dec_lt}
 use lib.ListN.{length, take, replicate, length-take, length-replicate, get_or-replicate, get_or-eq_default}
-use Rattle.machine.specs.inner.Index.{Scratch, Index}
+use Rattle.machine.specs.inner.Index.{Linked}
 use Rattle.machine.specs.inner.Explore.{Blank}
-use Rattle.machine.proofs.Naming.{empty_index}
+use Rattle.machine.proofs.Finding.{nothing_linked}
 
--- the arrays of an index, as they are made
-pub new_scratch : Scratch (replicate 8192 0) (replicate 8192 0)
-new_scratch = record { all_pairs = length-replicate {A = ℕ} 8192 0; all_links = length-replicate {A = ℕ} 8192 0 }
-
-pub new_index : Index (replicate 8192 0) (replicate 8192 0) 0
-new_index = empty_index new_scratch (replicate 8192 0) (ap (λ (n : ℕ). replicate n 0) (sym (length-replicate {A = ℕ} 8192 0)))
+-- an index as it is made
+pub new_index : Linked (record { pairs = replicate 4096 (0, 0); heads = replicate 4096 0; nexts = replicate 4096 0; count = 0 })
+new_index = nothing_linked (length-replicate {A = ℕ × ℕ} 4096 (0, 0)) (length-replicate {A = ℕ} 4096 0) refl refl
 
 pub zeros_blank : (n : ℕ) → Blank (replicate n 0)
 zeros_blank n =

@@ -3,5 +3,6 @@ pub mod Index
 pub mod Words
 pub mod Refine
 pub mod Writing
+pub mod Sides
 pub mod Explore
 pub mod Stages

@@ -1,174 +1,125 @@
 // Exploring breadth first from the fresh situation, letters in order: each unseen situation is put at the next place, and each candidate's word
 // into the table.
 ghost use Rattle.std.specs.Prelude.{◌+◌, ◌*◌, ◌<◌, ◌≡◌, length};
-ghost use Rattle.machine.specs.Shim.{shim_of};
-ghost use Rattle.machine.specs.inner.Index.{Index};
+ghost use Rattle.machine.specs.inner.Index.{capacity, Linked};
 ghost use Rattle.machine.specs.inner.Words.{Slot};
-ghost use Rattle.machine.specs.inner.Explore.{situation_at, Explored, Stored, Notable, Noted, Onward, Surveyed, Fresh};
+ghost use Rattle.machine.specs.inner.Explore.{situation_at, Explored, StoredIf, Notable, Noted, OnwardIf, SurveyedIf, Fresh};
+ghost use Rattle.machine.specs.inner.Sides.{ruled};
 ghost use Rattle.machine.specs.inner.Stages.{Few, Unused, Candidate};
 
-use crate::step::Answered;
-use crate::{index, refine, step};
+use crate::index::Index;
+use crate::step;
+use crate::step::Sides;
 use operations::alphabet::{ACCESSES, STRIDE};
 use rule::situation::Situation;
-use rule::way::Shim;
 use tables::table::Table;
 
-fn situation_at(pairs: &[u64], p: usize) -> Situation
-    requires { p * 2 + 1 < length pairs.now }
-    ensures { result ≡ situation_at pairs.now p }
+fn situation_at(index: &Index, p: usize) -> Situation
+    requires { p < capacity }
+    ensures { result ≡ situation_at index.now.pairs p }
 {
+    let (need, low) = index.pair(p);
     Situation {
-        need: Table {
-            packed: pairs[p * 2],
-        },
-        low: Table {
-            packed: pairs[p * 2 + 1],
-        },
+        need: Table { packed: need },
+        low: Table { packed: low },
     }
 }
 
-// Stores the next situation, and the word of (i, a) that leads there. Gives the count of situations; 4097 where there is no room.
+// Stores the next situation, and the word of (i, a) that leads there; none where there is no room for it.
 fn store(
-    pairs: &mut [u64],
-    links: &mut [u16],
+    index: &mut Index,
     table: &mut [u32],
-    count: usize,
     i: usize,
     a: usize,
     o: usize,
     next: Situation,
-) -> usize
-    requires { Index pairs.old links.old count × Slot table.old i a × (o < 256) }
-    ensures { Stored pairs.old table.old count i a o next
-        pairs.new links.new table.new result }
+) -> Option<()>
+    requires { Linked index.old × Slot table.old i a × (o < 256) }
+    ensures { StoredIf index.old table.old i a o next index.new table.new result }
 {
-    let need = next.need.packed;
-    let low = next.low.packed;
-    let q = index::place(pairs, links, count, need, low);
-    if q == 4096 {
-        return 4097;
-    }
+    let q = index.place(next.need.packed, next.low.packed)?;
     table[i * STRIDE + a] = ((o + 1) * 4096 + q) as u32;
-    refine::larger(count, q + 1)
+    Some(())
 }
 
-// Notes the answer to candidate (i, a), and gives the count of situations; 4097 where they are more than 4096.
+// Notes the answer to candidate (i, a); none where the situations are more than 4096.
 fn note(
-    pairs: &mut [u64],
-    links: &mut [u16],
+    index: &mut Index,
     table: &mut [u32],
-    count: usize,
     i: usize,
     a: usize,
-    answered: Answered,
-) -> usize
-    requires { Index pairs.old links.old count × Slot table.old i a × Notable answered }
-    ensures { Noted pairs.old links.old table.old count i a answered
-        pairs.new links.new table.new result }
+    answered: Option<(usize, Situation)>,
+) -> Option<()>
+    requires { Linked index.old × Slot table.old i a × Notable answered }
+    ensures { Noted index.old table.old i a answered index.new table.new result }
 {
     match answered {
-        Answered::Taken(o, next) => store(pairs, links, table, count, i, a, o, next),
-        Answered::Refused => {
+        Some((o, next)) => store(index, table, i, a, o, next),
+        None => {
             table[i * STRIDE + a] = 0;
-            count
+            Some(())
         }
     }
 }
 
-// Answers candidate (i, a), and gives the count of situations; 4097 where they are more than 4096.
+// Answers candidate (i, a); none where the situations are more than 4096.
 fn explore_letter<'a>(
-    shim: Shim,
-    ups: &'a [u64],
-    fences: &'a [u64],
-    pairs: &mut [u64],
-    links: &mut [u16],
+    sides: Sides<'a>,
+    index: &mut Index,
     table: &mut [u32],
-    count: usize,
     i: usize,
     a: usize,
-) -> usize
-    requires { Candidate shim ups.now fences.now pairs.old links.old table.old count i a }
-    ensures { Onward (shim_of shim ups.now fences.now) count
-        pairs.new links.new table.new i (a + 1) result }
+) -> Option<()>
+    requires { Candidate sides index.old table.old i a }
+    ensures { OnwardIf (ruled sides.entry) index.old.count index.new table.new i (a + 1) result }
 {
-    let s = situation_at(pairs, i);
-    let answered = step::answer(shim, ups, fences, s, a);
-    note(pairs, links, table, count, i, a, answered)
+    let s = situation_at(index, i);
+    let answered = step::answer(sides, s, a);
+    note(index, table, i, a, answered)
 }
 
-// Answers every letter at situation i, and gives the count of situations; 4097 where they are more than 4096.
-fn explore_row<'a>(
-    shim: Shim,
-    ups: &'a [u64],
-    fences: &'a [u64],
-    pairs: &mut [u64],
-    links: &mut [u16],
-    table: &mut [u32],
-    began: usize,
-    i: usize,
-) -> usize
-    requires explored { Explored (shim_of shim ups.now fences.now) pairs.old links.old table.old began i 0 }
-    requires few { Few ups.now fences.now × (i < began) }
-    ensures { Onward (shim_of shim ups.now fences.now) began
-        pairs.new links.new table.new (i + 1) 0 result }
+// Answers every letter at situation i; none where the situations are more than 4096.
+fn explore_row<'a>(sides: Sides<'a>, index: &mut Index, table: &mut [u32], i: usize) -> Option<()>
+    requires explored { Explored (ruled sides) index.old table.old i 0 }
+    requires few { Few sides × (i < index.old.count) }
+    ensures { OnwardIf (ruled sides.entry) index.old.count index.new table.new (i + 1) 0 result }
 {
-    let mut count = began;
-    let mut a = 0;
-    while a < ACCESSES + ups.len() {
-        count = explore_letter(shim, ups, fences, pairs, links, table, count, i, a);
-        if 4096 < count {
-            return count;
-        }
-        a += 1;
+    for a in 0..ACCESSES + sides.ups.len() {
+        explore_letter(sides, index, table, i, a)?;
     }
-    count
+    Some(())
 }
 
 // Puts the fresh situation at place 0.
-fn begin(pairs: &mut [u64], links: &mut [u16])
-    requires { Index pairs.old links.old 0 }
-    ensures { Fresh pairs.new links.new }
+fn begin(index: &mut Index)
+    requires { Linked index.old × (index.old.count ≡ 0) }
+    ensures { Fresh index.new }
 {
     let fresh = Situation::fresh();
-    let need = fresh.need.packed;
-    let low = fresh.low.packed;
-    index::place(pairs, links, 0, need, low);
+    index.place(fresh.need.packed, fresh.low.packed);
 }
 
-// Answers every letter at every situation, and gives the count of situations; 4097 where they are more than 4096.
-fn explore_all<'a>(
-    shim: Shim,
-    ups: &'a [u64],
-    fences: &'a [u64],
-    pairs: &mut [u64],
-    links: &mut [u16],
-    table: &mut [u32],
-) -> usize
-    requires explored { Explored (shim_of shim ups.now fences.now) pairs.old links.old table.old 1 0 0 }
-    requires few { Few ups.now fences.now }
-    ensures { Onward (shim_of shim ups.now fences.now) 0
-        pairs.new links.new table.new result 0 result }
+// Answers every letter at every situation, and gives the count of situations; none where they are more than 4096.
+fn explore_all<'a>(sides: Sides<'a>, index: &mut Index, table: &mut [u32]) -> Option<usize>
+    requires explored { Explored (ruled sides) index.old table.old 0 0 }
+    requires few { Few sides }
+    ensures { SurveyedIf (ruled sides.entry) table.new result }
 {
-    let mut count = 1;
     let mut i = 0;
-    while i < count {
-        count = explore_row(shim, ups, fences, pairs, links, table, count, i);
-        if 4096 < count {
-            return count;
-        }
+    // The count grows as the rows are answered.
+    while i < index.count {
+        explore_row(sides, index, table, i)?;
         i += 1;
     }
-    count
+    Some(index.count)
 }
 
 // Explores from nothing, in an index of its own.
-pub(crate) fn explore<'a>(shim: Shim, ups: &'a [u64], fences: &'a [u64], table: &mut [u32]) -> usize
-    requires { Few ups.now fences.now × Unused table.old }
-    ensures { Surveyed (shim_of shim ups.now fences.now) table.new result }
+pub(crate) fn explore<'a>(sides: Sides<'a>, table: &mut [u32]) -> Option<usize>
+    requires { Few sides × Unused table.old }
+    ensures { SurveyedIf (ruled sides.entry) table.new result }
 {
-    let mut pairs = [0u64; 8192];
-    let mut links = [0u16; 8192];
-    begin(&mut pairs, &mut links);
-    explore_all(shim, ups, fences, &mut pairs, &mut links, table)
+    let mut index = Index::new();
+    begin(&mut index);
+    explore_all(sides, &mut index, table)
 }

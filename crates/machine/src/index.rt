@@ -1,15 +1,15 @@
 // Pairs of numbers, in the order in which they were put, found again by a hash: the places of one bucket are a chain whose links fall, so a
-// search ends where its cursor does. The pair at place p is pairs[2 p] and pairs[2 p + 1]; bucket b's chain begins at links[b] and goes on from
-// place p at links[4096 + p].
+// search ends where its cursor does. Bucket b's chain begins at heads[b] and goes on from place p at nexts[p]. A link is one more than a place,
+// or 0 where the chain ends.
 ghost use Rattle.std.specs.Prelude.{◌+◌, ◌*◌, ◌<◌, ◌≡◌, length};
-ghost use Rattle.machine.specs.inner.Index.{bucket_of, capacity, Index, Holds, Absent, FoundAt, Pushed, Placed};
+ghost use Rattle.machine.specs.inner.Index.{bucket_of, capacity, pair_at, Linked, FoundAt, Pushed, PlaceOf};
 
-
-// A link as an index: one more than a place, or 0 where the chain ends.
-fn wide(x: u16) -> usize
-    ensures { result ≡ x }
-{
-    x as usize
+#[derive(Drop)]
+pub(crate) struct Index {
+    pairs: [(u64, u64); 4096],
+    heads: [u16; 4096],
+    nexts: [u16; 4096],
+    pub(crate) count: usize,
 }
 
 fn bucket(need: u64, low: u64) -> usize
@@ -18,76 +18,75 @@ fn bucket(need: u64, low: u64) -> usize
     ((need % 65521 + low % 65537 * 3) % 4096) as usize
 }
 
-// Whether the pair stands at a place.
-fn holds(pairs: &[u64], place: usize, need: u64, low: u64) -> bool
-    requires { place * 2 + 1 < length pairs.now }
-    ensures { Holds pairs.now need low place result }
-{
-    if pairs[place * 2] != need {
-        return false;
-    }
-    if pairs[place * 2 + 1] != low {
-        return false;
-    }
-    true
-}
-
-fn find<'a>(pairs: &'a [u64], links: &'a [u16], count: usize, need: u64, low: u64) -> Option<usize>
-    requires { Index pairs.now links.now count }
-    ensures { FoundAt pairs.now count need low result }
-{
-    let mut cursor = wide(links[bucket(need, low)]);
-    while cursor != 0 {
-        let place = cursor - 1;
-        if holds(pairs, place, need, low) {
-            return Some(place);
+impl Index {
+    // No pairs.
+    pub(crate) fn new() -> Self
+        ensures { Linked result × (result.count ≡ 0) }
+    {
+        Index {
+            pairs: [(0, 0); 4096],
+            heads: [0; 4096],
+            nexts: [0; 4096],
+            count: 0,
         }
-        cursor = wide(links[4096 + place]);
     }
-    None
-}
 
-// Puts a pair at the next place.
-fn push(pairs: &mut [u64], links: &mut [u16], count: usize, need: u64, low: u64)
-    requires index { Index pairs.old links.old count }
-    requires count_lt_capacity { count < capacity }
-    ensures { Pushed pairs.old count need low pairs.new links.new }
-{
-    let b = bucket(need, low);
-    let link = (count + 1) as u16;
-    pairs[count * 2] = need;
-    pairs[count * 2 + 1] = low;
-    links[4096 + count] = links[b];
-    links[b] = link;
-}
-
-// Puts a pair that stands nowhere yet at the next place, if there is one, and gives the next place.
-fn add(pairs: &mut [u64], links: &mut [u16], count: usize, need: u64, low: u64) -> usize
-    requires index { Index pairs.old links.old count }
-    requires absent { Absent pairs.old count need low }
-    ensures { Placed pairs.old count need low pairs.new links.new result }
-{
-    if count == 4096 {
-        return count;
+    // The pair at a place.
+    pub(crate) fn pair(&self, place: usize) -> (u64, u64)
+        requires { place < capacity }
+        ensures { result ≡ pair_at self.now.pairs place }
+    {
+        self.pairs[place]
     }
-    push(pairs, links, count, need, low);
-    count
-}
 
-// The place of a pair, which is put at the next place where it stands nowhere yet and there is room.
-pub(crate) fn place(
-    pairs: &mut [u64],
-    links: &mut [u16],
-    count: usize,
-    need: u64,
-    low: u64,
-) -> usize
-    requires { Index pairs.old links.old count }
-    ensures { Placed pairs.old count need low pairs.new links.new result }
-{
-    let found = find(pairs, links, count, need, low);
-    match found {
-        Some(p) => p,
-        None => add(pairs, links, count, need, low),
+    fn find(&self, need: u64, low: u64) -> Option<usize>
+        requires { Linked self.now }
+        ensures { FoundAt self.now need low result }
+    {
+        let mut cursor = usize::from(self.heads[bucket(need, low)]);
+        // Down the chain, whose links fall.
+        while cursor != 0 {
+            let place = cursor - 1;
+            if self.pair(place) == (need, low) {
+                return Some(place);
+            }
+            cursor = usize::from(self.nexts[place]);
+        }
+        None
+    }
+
+    // Puts a pair at the next place.
+    fn push(&mut self, need: u64, low: u64)
+        requires { Linked self.old × (self.old.count < capacity) }
+        ensures { Pushed self.old need low self.new }
+    {
+        let b = bucket(need, low);
+        self.pairs[self.count] = (need, low);
+        self.nexts[self.count] = self.heads[b];
+        self.count += 1;
+        self.heads[b] = self.count as u16;
+    }
+
+    // The place of a pair, which is put at the next place where it stands nowhere yet; none where there is no room for it.
+    pub(crate) fn place(&mut self, need: u64, low: u64) -> Option<usize>
+        requires { Linked self.old }
+        ensures { PlaceOf self.old need low self.new result }
+    {
+        if let Some(p) = self.find(need, low) {
+            return Some(p);
+        }
+        if self.count == 4096 {
+            return None;
+        }
+        self.push(need, low);
+        Some(self.count - 1)
+    }
+
+    // Takes every pair out.
+    pub(crate) fn clear(&mut self)
+        ensures { Linked self.new × (self.new.count ≡ 0) }
+    {
+        self.heads.fill(0);
+        self.count = 0;
     }
 }

@@ -13,6 +13,7 @@ ghost use Rattle.machine.specs.Generated.{Generated};
 ghost use Rattle.machine.specs.inner.Stages.{Few, Makes, Unused, Searched, Sorted};
 
 use crate::machine::{Machine, Outcome};
+use crate::step::Sides;
 use answers::Refusal;
 use operations::alphabet::{ACCESSES, STRIDE};
 use rule::way;
@@ -22,76 +23,62 @@ use rule::way::Shim;
 fn named<'a>(fences: &'a [u64]) -> &'a [u64]
     ensures { result.now ≡ take 16 fences.now }
 {
-    if fences.len() < 16 {
-        return fences;
-    }
-    &fences[..16]
+    &fences[..fences.len().min(16)]
 }
 
 // The states are found: writes their rows, if they fit.
 fn write<'a>(
-    shim: Shim,
-    ups: &'a [u64],
-    fences: &'a [u64],
+    sides: Sides<'a>,
     table: &'a [u32],
     classes: &'a [u8],
     count: usize,
     states: usize,
     rows: &mut [u16],
 ) -> Outcome
-    requires { Sorted shim ups.now fences.now table.now classes.now count states }
-    ensures { Makes shim ups.now fences.now rows.old result rows.new }
+    requires { Sorted sides table.now classes.now count states }
+    ensures { Makes sides.entry rows.old result rows.new }
 {
     if rows.len() < states * STRIDE {
         return Err(Refusal::BufferTooSmall);
     }
-    let way = shim.way;
-    rows::write_rows(table, classes, rows, ACCESSES + ups.len(), count, states);
+    rows::write_rows(
+        table,
+        classes,
+        rows,
+        ACCESSES + sides.ups.len(),
+        count,
+        states,
+    );
     Ok(Machine {
-        way: way::way_number(way),
+        way: way::way_number(sides.shim.way),
         situations: count,
         states,
-        ups: ups.len(),
-        targets: fences.len(),
+        ups: sides.ups.len(),
+        targets: sides.fences.len(),
     })
 }
 
 // The situations are found: finds the states among them.
-fn sort<'a>(
-    shim: Shim,
-    ups: &'a [u64],
-    fences: &'a [u64],
-    table: &'a [u32],
-    count: usize,
-    rows: &mut [u16],
-) -> Outcome
-    requires { Searched shim ups.now fences.now table.now count }
-    ensures { Makes shim ups.now fences.now rows.old result rows.new }
+fn sort<'a>(sides: Sides<'a>, table: &'a [u32], count: usize, rows: &mut [u16]) -> Outcome
+    requires { Searched sides table.now count }
+    ensures { Makes sides.entry rows.old result rows.new }
 {
     let mut classes = [0u8; 4096];
-    let states = refine::refine(table, &mut classes, count, ACCESSES + ups.len());
-    if 255 < states {
-        return Err(Refusal::TooManyStates);
+    match refine::refine(table, &mut classes, count, ACCESSES + sides.ups.len()) {
+        Some(states) => write(sides, table, &classes, count, states, rows),
+        None => Err(Refusal::TooManyStates),
     }
-    write(shim, ups, fences, table, &classes, count, states, rows)
 }
 
 // Finds the situations, in a table of answers in which nothing has been written.
-fn search<'a>(
-    shim: Shim,
-    ups: &'a [u64],
-    fences: &'a [u64],
-    table: &mut [u32],
-    rows: &mut [u16],
-) -> Outcome
-    requires { Few ups.now fences.now × Unused table.old }
-    ensures { Makes shim ups.now fences.now rows.old result rows.new }
+fn search<'a>(sides: Sides<'a>, table: &mut [u32], rows: &mut [u16]) -> Outcome
+    requires { Few sides × Unused table.old }
+    ensures { Makes sides.entry rows.old result rows.new }
 {
-    let count = explore::explore(shim, ups, fences, table);
-    if 4096 < count {
-        return Err(Refusal::TooManySituations);
+    match explore::explore(sides, table) {
+        Some(count) => sort(sides, table, count, rows),
+        None => Err(Refusal::TooManySituations),
     }
-    sort(shim, ups, fences, table, count, rows)
 }
 
 // Generates the machine of a shim, by its way and its two default tables, with the packed tables of the upstream model's fences and of the target
@@ -101,5 +88,10 @@ pub fn generate<'a>(shim: Shim, ups: &'a [u64], fences: &'a [u64], rows: &mut [u
     ensures { Generated shim ups.now fences.now rows.old result rows.new }
 {
     let mut table = [0u32; 81920];
-    search(shim, named(ups), named(fences), &mut table, rows)
+    let sides = Sides {
+        shim,
+        ups: named(ups),
+        fences: named(fences),
+    };
+    search(sides, &mut table, rows)
 }

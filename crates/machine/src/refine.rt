@@ -1,19 +1,13 @@
 // Classes of situations: all one at first, then split by what one letter after another shows, and numbered in the order in which they
 // first occur. The table has a word for each situation and letter.
-ghost use Rattle.std.specs.Prelude.{◌+◌, ◌*◌, ◌^◌, ◌<◌, ◌≤◌, max, ◌≡◌, length, replicate};
+ghost use Rattle.std.specs.Prelude.{◌+◌, ◌*◌, ◌^◌, ◌<◌, ◌≤◌, ◌≡◌, length};
 ghost use Rattle.operations.specs.Alphabet.{stride};
-ghost use Rattle.machine.specs.inner.Index.{capacity, Scratch};
-ghost use Rattle.machine.specs.inner.Refine.{Named, Begun, Rounded, Refined};
+ghost use Rattle.machine.specs.inner.Index.{capacity};
+ghost use Rattle.machine.specs.inner.Refine.{Begun, NamedIf, RoundedIf, RefinedIf};
 ghost use Rattle.machine.specs.inner.Words.{words, Slot, tabled, seen, key};
 
-use crate::index;
+use crate::index::Index;
 use operations::alphabet::STRIDE;
-
-pub(crate) fn wide_word(x: u32) -> usize
-    ensures { (result ≡ x) × (result < 2 ^ 32) }
-{
-    x as usize
-}
 
 // What a word shows: nothing where it refuses, else its output and its target's class.
 fn shown(word: usize, classes: &[u8]) -> usize
@@ -24,7 +18,7 @@ fn shown(word: usize, classes: &[u8]) -> usize
         return 0;
     }
     let target = word % 4096;
-    word / 4096 * 256 + ground::wide(classes[target])
+    word / 4096 * 256 + usize::from(classes[target])
 }
 
 // A situation's class with what a letter shows of it, as one number.
@@ -32,106 +26,75 @@ fn key_of<'a>(table: &'a [u32], classes: &'a [u8], i: usize, a: usize) -> u64
     requires { Slot table.now i a × (length classes.now ≡ capacity) }
     ensures { result ≡ key table.now classes.now a i }
 {
-    let word = wide_word(table[i * STRIDE + a]);
-    (ground::wide(classes[i]) + 256 * shown(word, classes)) as u64
+    let word = table[i * STRIDE + a] as usize;
+    (usize::from(classes[i]) + 256 * shown(word, classes)) as u64
 }
 
-// No pair is linked.
-fn clear(links: &mut [u16])
-    ensures { links.new ≡ replicate (length links.old) 0 }
-{
-    let mut b = 0;
-    while b < links.len() {
-        links[b] = 0;
-        b += 1;
-    }
-}
-
-pub(crate) fn larger(x: usize, y: usize) -> usize
-    ensures { result ≡ max x y }
-{
-    if x < y { y } else { x }
-}
-
-// Splits the classes of k situations by what letter a shows, into finer classes, whose count it gives; 256 where they are more than 255.
+// Splits the classes of k situations by what letter a shows, into finer classes, and gives their count, unless they are more than 255.
 fn split_by<'a>(
     table: &'a [u32],
     classes: &'a [u8],
     finer: &mut [u8],
-    pairs: &mut [u64],
-    links: &mut [u16],
+    index: &mut Index,
     k: usize,
     a: usize,
-) -> usize
+) -> Option<usize>
     requires k_le_capacity { (k ≤ capacity) × (a < stride) × (length table.now ≡ words) }
-    requires classes_len { (length classes.now ≡ capacity) × (length finer.old ≡ capacity) × Scratch pairs.old links.old }
-    ensures { Named k (key table.now classes.now a) finer.new result }
+    requires classes_len { (length classes.now ≡ capacity) × (length finer.old ≡ capacity) }
+    ensures { NamedIf k (key table.now classes.now a) finer.new result }
 {
-    clear(links);
-    let mut count = 0;
-    let mut i = 0;
-    while i < k {
-        let named = key_of(table, classes, i, a);
-        let q = index::place(pairs, links, count, named, 0);
+    index.clear();
+    for i in 0..k {
+        let q = index.place(key_of(table, classes, i, a), 0)?;
         if q == 255 {
-            return 256;
+            return None;
         }
         finer[i] = q as u8;
-        count = larger(count, q + 1);
-        i += 1;
     }
-    count
+    Some(index.count)
 }
 
-// One round: splits the classes by one letter after another, and gives their count; 256 where they are more than 255.
+// One round: splits the classes by one letter after another, and gives their count, unless they are more than 255.
 fn split_all<'a>(
     table: &'a [u32],
     classes: &mut [u8],
     finer: &mut [u8],
-    pairs: &mut [u64],
-    links: &mut [u16],
+    index: &mut Index,
     k: usize,
     letters: usize,
     began: usize,
-) -> usize
+) -> Option<usize>
     requires table_len { (length table.now ≡ words) × (length finer.old ≡ capacity) }
-    requires scratch { Scratch pairs.old links.old }
     requires begun { Begun (tabled letters table.now) k classes.old began }
-    ensures { Rounded (tabled letters table.now) k began classes.new result }
+    ensures { RoundedIf (tabled letters table.now) k began classes.new result }
 {
     let mut count = began;
-    let mut a = 0;
-    while a < letters {
-        count = split_by(table, classes, finer, pairs, links, k, a);
-        if 255 < count {
-            return count;
-        }
+    for a in 0..letters {
+        count = split_by(table, classes, finer, index, k, a)?;
         classes.copy_from_slice(finer);
-        a += 1;
     }
-    count
+    Some(count)
 }
 
-// Splits the classes round after round, until a round leaves their count as it was: then each class is one state. Gives the count; 256 where the
-// states are more than 255.
-pub(crate) fn refine<'a>(table: &'a [u32], classes: &mut [u8], k: usize, letters: usize) -> usize
+// Splits the classes round after round, until a round leaves their count as it was: then each class is one state. Gives the count,
+// unless the states are more than 255.
+pub(crate) fn refine<'a>(
+    table: &'a [u32],
+    classes: &mut [u8],
+    k: usize,
+    letters: usize,
+) -> Option<usize>
     requires table_len { length table.now ≡ words }
     requires begun { Begun (tabled letters table.now) k classes.old 1 }
-    ensures { Refined (tabled letters table.now) k classes.new result }
+    ensures { RefinedIf (tabled letters table.now) k classes.new result }
 {
     let mut finer = [0u8; 4096];
-    let mut pairs = [0u64; 8192];
-    let mut links = [0u16; 8192];
+    let mut index = Index::new();
     let mut count = 1;
     loop {
-        let more = split_all(
-            table, classes, &mut finer, &mut pairs, &mut links, k, letters, count,
-        );
-        if 255 < more {
-            return more;
-        }
+        let more = split_all(table, classes, &mut finer, &mut index, k, letters, count)?;
         if more == count {
-            return more;
+            return Some(more);
         }
         count = more;
     }

@@ -7,7 +7,6 @@ ghost use Rattle.machine.specs.inner.Index.{capacity};
 ghost use Rattle.machine.specs.inner.Words.{words, Slot};
 ghost use Rattle.machine.specs.inner.Writing.{state_word, state_entry, RowWritten, RowsWritten, FirstWritten, Narrow};
 
-use crate::refine;
 use operations::alphabet::STRIDE;
 
 // The word of a state where the table has this word.
@@ -19,7 +18,7 @@ fn state_word(word: usize, classes: &[u8]) -> u16
         return 65024;
     }
     let target = word % 4096;
-    let class = ground::wide(classes[target]);
+    let class = usize::from(classes[target]);
     ((word / 4096 - 1) * 256 + class) as u16
 }
 
@@ -31,7 +30,7 @@ fn state_entry<'a>(table: &'a [u32], classes: &'a [u8], letters: usize, i: usize
     if letters <= a {
         return 0;
     }
-    let word = refine::wide_word(table[i * STRIDE + a]);
+    let word = table[i * STRIDE + a] as usize;
     state_word(word, classes)
 }
 
@@ -48,10 +47,8 @@ fn write_row<'a>(
     requires narrow { Narrow table.now }
     ensures { RowWritten rows.old q (state_entry table.now classes.now letters i) stride rows.new }
 {
-    let mut a = 0;
-    while a < STRIDE {
+    for a in 0..STRIDE {
         rows[q * STRIDE + a] = state_entry(table, classes, letters, i, a);
-        a += 1;
     }
 }
 
@@ -70,7 +67,7 @@ fn write_first<'a>(
     ensures { FirstWritten (at classes.now i) q rows.old
         (state_entry table.now classes.now letters i) rows.new result }
 {
-    let class = ground::wide(classes[i]);
+    let class = usize::from(classes[i]);
     if class != q {
         return q;
     }
@@ -95,9 +92,7 @@ pub(crate) fn write_rows<'a>(
         (λ q. state_entry table.now classes.now letters (x.firsts q)) rows.new }
 {
     let mut q = 0;
-    let mut i = 0;
-    while i < k {
+    for i in 0..k {
         q = write_first(table, classes, rows, letters, i, q);
-        i += 1;
     }
 }

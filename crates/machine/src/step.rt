@@ -1,8 +1,8 @@
 // One step of the rule, by a letter of the alphabet.
 ghost use Rattle.std.specs.Prelude.{◌≡◌};
-ghost use Rattle.rule.specs.Sides.{upstream_of, target_of};
-ghost use Rattle.machine.specs.Shim.{step_answer, letter_answer};
+ghost use Rattle.machine.specs.Shim.{step_answer};
 ghost use Rattle.machine.specs.inner.Explore.{meant};
+ghost use Rattle.machine.specs.inner.Sides.{answered};
 
 use operations::alphabet;
 use operations::alphabet::ACCESSES;
@@ -10,35 +10,30 @@ use rule::situation::Situation;
 use rule::way;
 use rule::way::{Shim, Step};
 
-// The output, a fence's number or 255 for none, and the next situation.
-#[derive(Drop)]
-pub(crate) enum Answered {
-    Taken(usize, Situation),
-    Refused,
+// A shim with the packed tables of each side's fences.
+#[derive(Clone, Copy)]
+pub(crate) struct Sides<'a> {
+    pub(crate) shim: Shim,
+    pub(crate) ups: &'a [u64],
+    pub(crate) fences: &'a [u64],
 }
 
-fn put_before(step: Step) -> Answered
+fn put_before(step: Step) -> Option<(usize, Situation)>
     ensures { meant result ≡ step_answer step }
 {
     match step {
-        Step::Plain(next) => Answered::Taken(255, next),
-        Step::Fenced(g, next) => Answered::Taken(g, next),
-        Step::Refused => Answered::Refused,
+        Step::Plain(next) => Some((255, next)),
+        Step::Fenced(g, next) => Some((g, next)),
+        Step::Refused => None,
     }
 }
 
-// What letter a gets in situation s.
-pub(crate) fn answer<'a>(
-    shim: Shim,
-    ups: &'a [u64],
-    fences: &'a [u64],
-    s: Situation,
-    a: usize,
-) -> Answered
-    ensures { meant result ≡ letter_answer shim.way (upstream_of shim ups.now) (target_of shim fences.now) s a }
+// What letter a gets in situation s: the output, a fence's number or 255 for none, and the next situation; nothing where it is refused.
+pub(crate) fn answer<'a>(sides: Sides<'a>, s: Situation, a: usize) -> Option<(usize, Situation)>
+    ensures { meant result ≡ answered sides.entry s a }
 {
     if a < ACCESSES {
-        return put_before(way::take(shim, fences, s, alphabet::kind_of(a)));
+        return put_before(way::take(sides.shim, sides.fences, s, alphabet::kind_of(a)));
     }
-    Answered::Taken(255, s.asks(way::fence_table(ups, a - ACCESSES)))
+    Some((255, s.asks(way::fence_table(sides.ups, a - ACCESSES))))
 }

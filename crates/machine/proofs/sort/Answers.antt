@@ -3,8 +3,8 @@ use borrow.Author.Rules.{rules}
 use Rattle.machine.proofs.Stages.{searched_begun, searched_overfull}
 use Rattle.machine.proofs.sort.Goals as goal
 
-pub refine-states-requires : goal.refine-states-requires
-refine-states-requires c = search (searched_begun, rules)
+pub refine-requires : goal.refine-requires
+refine-requires c = search (searched_begun, rules)
 
-pub returns-then-states-gt255 : goal.returns-then-states-gt255
-returns-then-states-gt255 c = search (searched_overfull, rules)
+pub returns-in-None : goal.returns-in-None
+returns-in-None c = search (searched_overfull, c.in-None.ensures, rules)

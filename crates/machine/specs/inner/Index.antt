@@ -1,5 +1,7 @@
 -- Pairs of numbers, found again by their bucket. A link is one more than a place, or 0 where the chain ends.
-use Rattle.std.specs.Prelude.{ℕ, ◌+◌, ◌*◌, ◌%◌, ◌≤◌, ◌<◌, ◌≡◌, Bool, true, false, List, length, get_or, Option, Some, None}
+use Rattle.std.specs.Prelude.{ℕ, ◌+◌, ◌*◌, ◌%◌, ◌≤◌, ◌<◌, ◌≡◌, List, length, get_or, Option, Some, None}
+use Rattle.ground.specs.Bytes.{at}
+use Rattle.machine.specs.declared.index.Index.{Index}
 
 abbrev pub capacity : ℕ
 capacity = 4096
@@ -7,67 +9,65 @@ capacity = 4096
 abbrev pub bucket_of : ℕ → ℕ → ℕ
 bucket_of need low = (need % 65521 + low % 65537 * 3) % capacity
 
--- the pair at place p, in one array
-abbrev pub need_at : List ℕ → ℕ → ℕ
-need_at pairs p = get_or pairs (p * 2) 0
+-- the pair at place p
+abbrev pub pair_at : List (ℕ × ℕ) → ℕ → ℕ × ℕ
+pair_at pairs p = get_or pairs p (0, 0)
 
-abbrev pub low_at : List ℕ → ℕ → ℕ
-low_at pairs p = get_or pairs (p * 2 + 1) 0
+abbrev pub need_at : List (ℕ × ℕ) → ℕ → ℕ
+need_at pairs p = (pair_at pairs p).0
 
-abbrev pub bucket_at : List ℕ → ℕ → ℕ
+abbrev pub low_at : List (ℕ × ℕ) → ℕ → ℕ
+low_at pairs p = (pair_at pairs p).1
+
+abbrev pub bucket_at : List (ℕ × ℕ) → ℕ → ℕ
 bucket_at pairs p = bucket_of (need_at pairs p) (low_at pairs p)
 
--- the link to the last place of bucket b, and the link of place p to the one before it, in one array
-abbrev pub head_at : List ℕ → ℕ → ℕ
-head_at links b = get_or links b 0
-
-abbrev pub next_at : List ℕ → ℕ → ℕ
-next_at links p = get_or links (capacity + p) 0
-
 -- a link to the last place of bucket b below n, in that none of the bucket stands above it
-pub record Link (pairs : List ℕ) (n b link : ℕ) : Type 0 where
+pub record Link (pairs : List (ℕ × ℕ)) (n b link : ℕ) : Type 0 where
   pub within : link ≤ n
   pub own : (p : ℕ) → link ≡ p + 1 → bucket_at pairs p ≡ b
   pub last : (p : ℕ) → p < n → bucket_at pairs p ≡ b → p < link
 
--- the arrays of an index, whatever they hold
-pub record Scratch (pairs links : List ℕ) : Type 0 where
-  pub all_pairs : length pairs ≡ 2 * capacity
-  pub all_links : length links ≡ 2 * capacity
-
--- count pairs, with the links to them
-pub record Index (pairs links : List ℕ) (count : ℕ) : Type 0 where
-  pub fits : count ≤ capacity
-  pub scratch : Scratch pairs links
-  pub head : (b : ℕ) → b < capacity → Link pairs count b (head_at links b)
-  pub next : (p : ℕ) → p < count → Link pairs p (bucket_at pairs p) (next_at links p)
+-- as many pairs as are counted, with the links to them
+pub record Linked (x : Index) : Type 0 where
+  pub fits : x.count ≤ capacity
+  pub all_pairs : length x.pairs ≡ capacity
+  pub all_heads : length x.heads ≡ capacity
+  pub all_nexts : length x.nexts ≡ capacity
+  pub head : (b : ℕ) → b < capacity → Link x.pairs x.count b (at x.heads b)
+  pub next : (p : ℕ) → p < x.count → Link x.pairs p (bucket_at x.pairs p) (at x.nexts p)
 
 -- the pair stands at a place
-abbrev pub Pair : List ℕ → ℕ → ℕ → ℕ → Type 0
+abbrev pub Pair : List (ℕ × ℕ) → ℕ → ℕ → ℕ → Type 0
 Pair pairs need low p = (need_at pairs p ≡ need) × (low_at pairs p ≡ low)
 
-abbrev pub Holds : List ℕ → ℕ → ℕ → ℕ → Bool → Type 0
-Holds pairs need low p true = Pair pairs need low p
-Holds pairs need low p false = Pair pairs need low p → ⊥
-
--- the pair is not among the first count
-abbrev pub Absent : List ℕ → ℕ → ℕ → ℕ → Type 0
-Absent pairs count need low = (p : ℕ) → p < count → Pair pairs need low p → ⊥
+-- the pair stands at no place
+abbrev pub Absent : Index → ℕ → ℕ → Type 0
+Absent x need low = (p : ℕ) → p < x.count → Pair x.pairs need low p → ⊥
 
 -- what a search finds: the pair's place, or that there is none
-pub data FoundAt (pairs : List ℕ) (count need low : ℕ) (r : Option ℕ) : Type 0 where
-  there : (p : ℕ) → r ≡ Some p → p < count → Pair pairs need low p → FoundAt pairs count need low r
-  nowhere : r ≡ None → Absent pairs count need low → FoundAt pairs count need low r
+abbrev pub FoundAt : Index → ℕ → ℕ → Option ℕ → Type 0
+FoundAt x need low (Some p) = (p < x.count) × Pair x.pairs need low p
+FoundAt x need low None = Absent x need low
 
 -- the pair stands at the next place, and every other as it was
-pub record Pushed (pairs : List ℕ) (count need low : ℕ) (pairs' links : List ℕ) : Type 0 where
-  pub new : Pair pairs' need low count
-  pub old : (p : ℕ) → p < count → Pair pairs' (need_at pairs p) (low_at pairs p) p
-  pub index : Index pairs' links (count + 1)
+pub record Pushed (x : Index) (need low : ℕ) (x' : Index) : Type 0 where
+  pub new : Pair x'.pairs need low x.count
+  pub old : (p : ℕ) → p < x.count → Pair x'.pairs (need_at x.pairs p) (low_at x.pairs p) p
+  pub more : x'.count ≡ x.count + 1
+  pub linked : Linked x'
 
--- the place of a pair: where it stands already; or the next one, where it stood nowhere and stands now, or where there is no room for it
-pub data Placed (pairs : List ℕ) (count need low : ℕ) (pairs' links : List ℕ) (r : ℕ) : Type 0 where
-  known : r < count → Pair pairs need low r → pairs' ≡ pairs → Index pairs' links count → Placed pairs count need low pairs' links r
-  added : r ≡ count → Absent pairs count need low → count < capacity → Pushed pairs count need low pairs' links
-      → Placed pairs count need low pairs' links r
-  full : r ≡ count → Absent pairs count need low → count ≡ capacity → pairs' ≡ pairs → Placed pairs count need low pairs' links r
+-- the place of a pair: where it stands already; or the next one, where it stood nowhere and stands now
+pub data Placed (x : Index) (need low : ℕ) (x' : Index) (p : ℕ) : Type 0 where
+  known : p < x.count → Pair x.pairs need low p → x' ≡ x → Placed x need low x' p
+  added : p ≡ x.count → Absent x need low → Pushed x need low x' → Placed x need low x' p
+
+-- the pair stands nowhere, and there is no room for it
+pub record Full (x : Index) (need low : ℕ) : Type 0 where
+  pub absent : Absent x need low
+  pub full : x.count ≡ capacity
+
+-- its place, or that there is no room for it
+abbrev pub PlaceOf : Index → ℕ → ℕ → Index → Option ℕ → Type 0
+PlaceOf x need low x' (Some p) = Placed x need low x' p
+PlaceOf x need low x' None = Full x need low

@@ -1,14 +1,8 @@
 -- `explore_row` meets its contract: the letters below the one at hand have been answered; each turn answers one more. Assumes nothing.
-use Prim.Native.Nat.{◌+◌, ◌-◌}
-use lib.ListN.{length}
-use Rattle.machine.specs.Shim.{shim_of}
+use Rattle.machine.specs.inner.Sides.{ruled}
 use Rattle.machine.proofs.Breadth.{Rowing}
 use Rattle.machine.proofs.explore.explore_row.Given as goal
 
 abbrev pub invariant-loop-a : goal.invariant-loop-a
 invariant-loop-a l =
-    Rowing (shim_of l.shim l.ups l.fences) l.began l.pairs l.links l.table l.count l.i l.a
-
-abbrev pub decreases-loop-a : goal.decreases-loop-a
-decreases-loop-a l =
-    4 + length l.ups - l.a
+    Rowing (ruled l.sides) l.initial.index.count l.index l.table l.i l.a

@@ -3,5 +3,5 @@ use borrow.Author.Rules.{rules}
 use Rattle.machine.specs.inner.Explore.{passed}
 use Rattle.machine.proofs.explore.note.Goals as goal
 
-pub returns-in-Taken : goal.returns-in-Taken
-returns-in-Taken c = search (passed, rules)
+pub returns-in-Some : goal.returns-in-Some
+returns-in-Some c = search (passed, rules)

@@ -4,9 +4,9 @@ use Prim.Native.Nat.{◌-◌}
 use Rattle.machine.proofs.Rounds.{Refining}
 use Rattle.machine.proofs.refine.refine.Given as goal
 
-abbrev pub invariant-loop-finer : goal.invariant-loop-finer
-invariant-loop-finer l =
-    Refining l.letters l.table l.k l.classes l.finer l.pairs l.links l.count
+abbrev pub invariant-loop-more : goal.invariant-loop-more
+invariant-loop-more l =
+    Refining l.letters l.table l.k l.classes l.finer l.count
 
-abbrev pub decreases-loop-finer : goal.decreases-loop-finer
-decreases-loop-finer l = 256 - l.count
+abbrev pub decreases-loop-more : goal.decreases-loop-more
+decreases-loop-more l = 256 - l.count

@@ -1,9 +1,9 @@
 use borrow.Author.Rules.{rules}
-use Rattle.machine.proofs.Rounds.{going_next, going_crowd, scratch_kept}
+use Rattle.machine.proofs.Rounds.{going_next, going_crowd}
 use Rattle.machine.proofs.refine.split_all.Goals as goal
 
-pub returns-then-count-gt255 : goal.returns-then-count-gt255
-returns-then-count-gt255 c = search (going_crowd, rules)
+pub returns-in_err-count : goal.returns-in_err-count
+returns-in_err-count c = rw c.from_residual.ensures (going_crowd c.loop-a.invariant (search rules) c.in_err-count.ensures)
 
 pub loop-a-preserved : goal.loop-a-preserved
-loop-a-preserved c = search (going_next, scratch_kept, rules)
+loop-a-preserved c = search (going_next, c.in_ok-count.ensures, rules)

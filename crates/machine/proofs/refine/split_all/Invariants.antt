@@ -1,12 +1,7 @@
 -- `split_all` meets its contract: the letters below the one at hand have split the classes; each turn splits by one more. Assumes nothing.
-use Prim.Native.Nat.{◌-◌}
 use Rattle.machine.proofs.Rounds.{Going}
 use Rattle.machine.proofs.refine.split_all.Given as goal
 
 abbrev pub invariant-loop-a : goal.invariant-loop-a
 invariant-loop-a l =
-    Going l.letters l.table l.k l.began l.classes l.finer l.pairs l.links l.count l.a
-
-abbrev pub decreases-loop-a : goal.decreases-loop-a
-decreases-loop-a l =
-    l.letters - l.a
+    Going l.letters l.table l.k l.began l.classes l.finer l.count l.a

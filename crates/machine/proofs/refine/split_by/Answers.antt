@@ -6,7 +6,7 @@ pub loop-i-init : goal.loop-i-init
 loop-i-init c = search (splitting_start, rules)
 
 pub returns-then-q-eq255 : goal.returns-then-q-eq255
-returns-then-q-eq255 c = search (splitting_crowded, rules)
+returns-then-q-eq255 c = search (splitting_crowded, c.in_ok-q.ensures, rules)
 
 pub loop-i-preserved : goal.loop-i-preserved
-loop-i-preserved c = search (splitting_next, rules)
+loop-i-preserved c = search (splitting_next, c.in_ok-q.ensures, rules)

@@ -1,5 +1,4 @@
 -- `write_rows` meets its contract: the classes below q have their rows, read off their first situations, all of which are passed. Assumes nothing.
-use Prim.Native.Nat.{◌-◌}
 use Rattle.ground.specs.Bytes.{at}
 use Rattle.mealy.specs.inner.Classes.{Numbering}
 use Rattle.machine.specs.inner.Writing.{state_entry}
@@ -9,6 +8,3 @@ use Rattle.machine.proofs.rows.write_rows.Given as goal
 abbrev pub invariant-loop-i : goal.invariant-loop-i
 invariant-loop-i l =
     (x : Numbering l.k (at l.classes) l.n) → Writing x (state_entry l.table l.classes l.letters) l.initial.rows l.rows l.q l.i
-
-abbrev pub decreases-loop-i : goal.decreases-loop-i
-decreases-loop-i l = l.k - l.i
