@@ -1,5 +1,4 @@
 pub mod Fronts
-pub mod Values
 pub mod Sealing
 pub mod Readings
 pub mod Accepted

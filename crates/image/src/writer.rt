@@ -31,21 +31,21 @@ fn half(i: usize, number: usize) -> u8
     }
 }
 
-// The word of a state and a letter; 0 of an unused state.
+// Unused states are zero.
 #[tactic(auto, unfolding(crate::specs::Image::used))]
-fn used_word(h: Header, rows: &[u16], state: usize, letter: usize) -> usize
-    requires { (state < 2 ^ 32) × (letter < 2 ^ 32) }
-    ensures { (result ≡ used h state (word rows.now state letter)) × (result < 65536) }
+fn used(h: Header, state: usize, value: u16) -> u8
+    requires { value < 256 }
+    ensures { result ≡ used h state value }
 {
     if state < usize::from(h.states) {
-        usize::from(word_at(rows, state, letter))
+        value as u8
     } else {
         0
     }
 }
 
 // What is written at byte i, the checks aside.
-#[tactic(auto, using(crate::proofs::Values::used_high, crate::proofs::Values::used_low), unfolding(crate::specs::Image::value_at))]
+#[tactic(auto, unfolding(crate::specs::Image::value_at))]
 fn value_at(h: Header, rows: &[u16], i: usize) -> u8
     requires { i < 2 ^ 24 }
     ensures { result ≡ value_at h rows.now i }
@@ -59,9 +59,9 @@ fn value_at(h: Header, rows: &[u16], i: usize) -> u8
         Place::TargetFences => h.targets,
         Place::UpstreamName(k) => h.upstream[k],
         Place::TargetName(k) => h.target[k],
-        Place::Fence(state, a) => (used_word(h, rows, state, a) / 256) as u8,
-        Place::Next(state, a) => (used_word(h, rows, state, a) % 256) as u8,
-        Place::FenceNext(state, f) => (used_word(h, rows, state, ACCESSES + f) % 256) as u8,
+        Place::Fence(state, a) => used(h, state, word_at(rows, state, a) / 256),
+        Place::Next(state, a) => used(h, state, word_at(rows, state, a) % 256),
+        Place::FenceNext(state, f) => used(h, state, word_at(rows, state, ACCESSES + f) % 256),
         Place::Nothing | Place::Check => 0,
     }
 }

@@ -9,14 +9,14 @@ bounds-h-k c = let s = stands_as _ _ c.in-UpstreamName.ensures in omega arith
 pub bounds-h-k-in-TargetName : goal.bounds-h-k-in-TargetName
 bounds-h-k-in-TargetName c = let s = stands_as _ _ c.in-TargetName.ensures in omega arith
 
-pub used_word-requires : goal.used_word-requires
-used_word-requires c = let s = stands_as _ _ c.in-Fence.ensures in (omega arith, omega arith)
+pub word_at-requires : goal.word_at-requires
+word_at-requires c = let s = stands_as _ _ c.in-Fence.ensures in (omega arith, omega arith)
 
-pub used_word-requires-in-Next : goal.used_word-requires-in-Next
-used_word-requires-in-Next c = let s = stands_as _ _ c.in-Next.ensures in (omega arith, omega arith)
+pub word_at-requires-in-Next : goal.word_at-requires-in-Next
+word_at-requires-in-Next c = let s = stands_as _ _ c.in-Next.ensures in (omega arith, omega arith)
 
 pub overflow_add-f : goal.overflow_add-f
 overflow_add-f c = let s = stands_as _ _ c.in-FenceNext.ensures in omega arith
 
-pub used_word-requires-in-FenceNext : goal.used_word-requires-in-FenceNext
-used_word-requires-in-FenceNext c = let s = stands_as _ _ c.in-FenceNext.ensures in (omega arith, omega arith)
+pub word_at-requires-in-FenceNext : goal.word_at-requires-in-FenceNext
+word_at-requires-in-FenceNext c = let s = stands_as _ _ c.in-FenceNext.ensures in (omega arith, omega arith)
