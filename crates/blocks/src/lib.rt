@@ -7,8 +7,6 @@ ghost use Rattle.ground.specs.Lowest.{lowest};
 ghost use Rattle.blocks.specs.Checksum.{two_bytes, plus, checksum};
 ghost use Rattle.blocks.specs.Wrong.{check_in, wrong};
 
-use ground::Found;
-
 // Bytes `from` and `from` + 1 as one number.
 fn two_bytes(bytes: &[u8], from: usize) -> usize
     requires { from + 1 < length bytes.now }
@@ -62,15 +60,8 @@ fn is_wrong(image: &[u8], b: usize) -> bool
 }
 
 // The lowest wrong one of so many blocks.
-pub fn lowest_wrong(image: &[u8], count: usize) -> Found
+pub fn lowest_wrong(image: &[u8], count: usize) -> Option<usize>
     ensures { result ≡ lowest (wrong image.now) 0 count }
 {
-    let mut b = 0;
-    while b < count {
-        if is_wrong(image, b) {
-            return Found::At(b);
-        }
-        b += 1;
-    }
-    Found::Nowhere
+    (0..count).find(|b| is_wrong(image, *b))
 }

@@ -5,13 +5,6 @@ ghost use Rattle.std.specs.Prelude.{◌<◌, ◌≤◌, ◌+◌, ◌≡◌, leng
 ghost use Rattle.ground.specs.Bytes.{at, in_range, name_byte, same_bytes};
 ghost use Rattle.ground.specs.Search.{index_of};
 
-// The first of some places, if there is one.
-#[derive(Clone, Copy)]
-pub enum Found {
-    At(usize),
-    Nowhere,
-}
-
 // A byte among numbers.
 pub fn wide(byte: u8) -> usize
     ensures { (result ≡ byte) × (result < 256) }

@@ -148,17 +148,11 @@ fn run_all<'a>(image: &'a [u8], start: usize, stream: &'a [u8], room: &mut [u8])
         fences: 0,
         state: start,
     };
-    let mut i = 0;
-    while i < stream.len() {
-        let byte = stream[i];
-        let step = take_byte(image, p.state, byte);
-        match step {
+    for (i, byte) in stream.iter().enumerate() {
+        match take_byte(image, p.state, *byte) {
             Step::Stopped(why) => return Ending::Stopped(why, i),
-            Step::Taken(taken) => {
-                p = put(p, byte, taken, room);
-            }
+            Step::Taken(taken) => p = put(p, *byte, taken, room),
         }
-        i += 1;
     }
     Ending::Ended(p)
 }

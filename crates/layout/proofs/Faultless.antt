@@ -10,7 +10,7 @@ use native.Mathlib.Omega.{arith}
 use borrow.Author.Tests.{lt-ltb, le-leb, ne_eqb, ltb-false, leb-false, eqb-true, eqb-false}
 use lib.Dec.{leb, ltb, eqb}
 use lib.ListN.{length}
-use Rattle.ground.specs.declared.Found.{Found}
+use Rattle.std.proofs.Common.{Option, Some, None}
 use Rattle.ground.specs.Bytes.{at}
 use Rattle.ground.proofs.Truths.{differ, true_false}
 use Rattle.answers.specs.declared.Refusal.{Refusal}
@@ -29,10 +29,10 @@ use Rattle.layout.proofs.Failing.{neither, chosen, equal}
 use Rattle.places.proofs.Standing.{fence_at, next_at_lem, onward_at, within_image}
 
 -- the stages of an acceptance
-staged : (f g : Found) → stages f g ≡ Verdict.Accepted → (f ≡ Found.Nowhere) × (g ≡ Found.Nowhere)
-staged (Found.At b) g e = differ (cc)
-staged Found.Nowhere (Found.At i) e = differ (cc)
-staged Found.Nowhere Found.Nowhere e = (refl, refl)
+staged : (f g : Option ℕ) → stages f g ≡ Verdict.Accepted → (f ≡ None) × (g ≡ None)
+staged (Some b) g e = differ (cc)
+staged None (Some i) e = differ (cc)
+staged None None e = (refl, refl)
 
 pub accepted_faultless : (image : List ℕ) → verdict_of image ≡ Verdict.Accepted → Faultless image
 unfolding verdict_of

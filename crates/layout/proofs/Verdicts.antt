@@ -4,7 +4,7 @@ use mathlib.Core.Path.{◌≡◌, sym, ap, ◌∙◌}
 use mathlib.Core.List.{List}
 use borrow.Author.Tests.{lt-ltb, le-ltb}
 use lib.ListN.{length}
-use Rattle.ground.specs.declared.Found.{Found}
+use Rattle.std.proofs.Common.{Option}
 use Rattle.ground.specs.Lowest.{lowest}
 use Rattle.answers.specs.declared.Refusal.{Refusal}
 use Rattle.answers.specs.declared.Verdict.{Verdict}
@@ -17,9 +17,9 @@ module _ (image : List ℕ) where
   unfolding verdict_of
   over_limit h = rw (lt-ltb _ _ h)
 
-  pub by_blocks : {n : ℕ} {f g : Found} {v : Verdict} → length image ≤ limit → n ≡ block_count image → f ≡ lowest (wrong image) 0 n → f ≡ g
+  pub by_blocks : {n : ℕ} {f g : Option ℕ} {v : Verdict} → length image ≤ limit → n ≡ block_count image → f ≡ lowest (wrong image) 0 n → f ≡ g
       → v ≡ stages g (lowest_barred image) → v ≡ verdict_of image
   unfolding verdict_of
   by_blocks fits count block is h =
       rw (le-ltb _ _ fits)
-      (h ∙ ap (λ (x : Found). stages x (lowest_barred image)) (sym is ∙ block ∙ ap (lowest (wrong image) 0) count))
+      (h ∙ ap (λ (x : Option ℕ). stages x (lowest_barred image)) (sym is ∙ block ∙ ap (lowest (wrong image) 0) count))

@@ -3,7 +3,7 @@
 -- byte"; in this order.
 use Rattle.std.specs.Prelude.{ℕ, ◌+◌, ◌/◌, max, cond, List, ltb, length}
 use Rattle.ground.specs.Lowest.{lowest}
-use Rattle.ground.specs.declared.Found.{Found}
+use Rattle.std.specs.Prelude.{Option, Some, None}
 use Rattle.answers.specs.declared.Refusal.{Refusal}
 use Rattle.answers.specs.declared.Verdict.{Verdict}
 use Rattle.places.specs.Layout.{limit}
@@ -15,17 +15,17 @@ abbrev pub block_count : List ℕ → ℕ
 block_count image = max 1 ((length image + 511) / 512)
 
 -- the lowest wrong block and the lowest barred byte
-abbrev pub lowest_wrong : List ℕ → Found
+abbrev pub lowest_wrong : List ℕ → Option ℕ
 lowest_wrong image = lowest (wrong image) 0 (block_count image)
 
-abbrev pub lowest_barred : List ℕ → Found
+abbrev pub lowest_barred : List ℕ → Option ℕ
 lowest_barred image = lowest (barred image) 0 (length image)
 
 -- the verdict by these two
-abbrev pub stages : Found → Found → Verdict
-stages (Found.At b) byte = Verdict.Refused (Refusal.BrokenBlock b)
-stages Found.Nowhere (Found.At i) = Verdict.Refused (Refusal.BarredValue i)
-stages Found.Nowhere Found.Nowhere = Verdict.Accepted
+abbrev pub stages : Option ℕ → Option ℕ → Verdict
+stages (Some b) byte = Verdict.Refused (Refusal.BrokenBlock b)
+stages None (Some i) = Verdict.Refused (Refusal.BarredValue i)
+stages None None = Verdict.Accepted
 
 unfoldable pub verdict_of : List ℕ → Verdict
 verdict_of image =

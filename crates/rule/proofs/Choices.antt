@@ -5,7 +5,7 @@ use mathlib.Core.Bool.{Bool, true, false, cond}
 use mathlib.Core.List.{List, ◌++◌}
 use native.Mathlib.Omega.{arith}
 use lib.ListN.{length}
-use Rattle.ground.specs.declared.Found.{Found}
+use Rattle.std.proofs.Common.{Option, Some, None}
 use Rattle.ground.specs.Lowest.{lowest}
 use Rattle.ground.proofs.Lowest.{lowest_takes, lowest_nowhere}
 use Rattle.ground.proofs.Truths.{differ, not_both}
@@ -37,17 +37,17 @@ module _ (way : Way) (fences : List ℕ) (pending : Table) where
   choice_pick e = ap (λ (b : Bool). cond b Choice.Nothing (pick way (serves fences pending) (length fences))) e
 
 -- what was found, told by what is taken
-taken_fence : (x : Found) (g : ℕ) → taken x ≡ Choice.Fence g → x ≡ Found.At g
-taken_fence (Found.At i) g e = cc
-taken_fence Found.Nowhere g e = differ (cc)
+taken_fence : (x : Option ℕ) (g : ℕ) → taken x ≡ Choice.Fence g → x ≡ Some g
+taken_fence (Some i) g e = cc
+taken_fence None g e = differ (cc)
 
-taken_refused : (x : Found) → taken x ≡ Choice.Refused → x ≡ Found.Nowhere
-taken_refused (Found.At i) e = differ (cc)
-taken_refused Found.Nowhere e = refl
+taken_refused : (x : Option ℕ) → taken x ≡ Choice.Refused → x ≡ None
+taken_refused (Some i) e = differ (cc)
+taken_refused None e = refl
 
-taken_some : (x : Found) → taken x ≡ Choice.Nothing → ⊥
-taken_some (Found.At i) e = differ (cc)
-taken_some Found.Nowhere e = differ (cc)
+taken_some : (x : Option ℕ) → taken x ≡ Choice.Nothing → ⊥
+taken_some (Some i) e = differ (cc)
+taken_some None e = differ (cc)
 
 module _ (f : ℕ → Bool) where
   -- the last of some fences

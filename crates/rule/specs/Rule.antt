@@ -4,7 +4,7 @@
 -- "Upstream fences are not passed on."
 -- The run has no limit of length: only the calls have.
 use Rattle.std.specs.Prelude.{ℕ, zero, suc, ◌<◌, ◌≡◌, Bool, true, false, cond, [], ◌∷◌, ◌++◌, length}
-use Rattle.ground.specs.declared.Found.{Found}
+use Rattle.std.specs.Prelude.{Option, Some, None}
 use Rattle.ground.specs.Lowest.{lowest}
 use Rattle.operations.specs.declared.Kind.{Kind}
 use Rattle.operations.specs.declared.Operation.{Operation}
@@ -19,9 +19,9 @@ way_number Way.Sparing = 0
 way_number Way.Full = 1
 
 -- the fence that was found, or a refusal
-abbrev pub taken : Found → Choice
-taken (Found.At g) = Choice.Fence g
-taken Found.Nowhere = Choice.Refused
+abbrev pub taken : Option ℕ → Choice
+taken (Some g) = Choice.Fence g
+taken None = Choice.Refused
 
 -- the last number below n, if the test passes there
 abbrev pub last : (ℕ → Bool) → ℕ → Choice

@@ -7,7 +7,6 @@ ghost use Rattle.rule.specs.Situation.{serves, choice_of, stepped};
 ghost use Rattle.rule.specs.Sides.{target_of};
 
 use crate::situation::Situation;
-use ground::Found;
 use operations::Kind;
 use tables::table::Table;
 
@@ -75,27 +74,20 @@ fn choose(way: Way, fences: &[u64], pending: Table) -> Choice
 }
 
 // The fence that was found, or a refusal.
-fn taken(found: Found) -> Choice
+fn taken(found: Option<usize>) -> Choice
     ensures { result ≡ taken found }
 {
     match found {
-        Found::At(g) => Choice::Fence(g),
-        Found::Nowhere => Choice::Refused,
+        Some(g) => Choice::Fence(g),
+        None => Choice::Refused,
     }
 }
 
 // The lowest-numbered fence that will do.
-fn lowest_fence(fences: &[u64], pending: Table) -> Found
+fn lowest_fence(fences: &[u64], pending: Table) -> Option<usize>
     ensures { result ≡ lowest (serves fences.now pending) 0 (length fences.now) }
 {
-    let mut g = 0;
-    while g < fences.len() {
-        if fence_table(fences, g).at_least(pending) {
-            return Found::At(g);
-        }
-        g += 1;
-    }
-    Found::Nowhere
+    (0..fences.len()).find(|g| fence_table(fences, *g).at_least(pending))
 }
 
 // The highest-numbered fence, if it will do.

@@ -7,8 +7,8 @@ use Rattle.layout.proofs.verdict.examine.Goals as goal
 pub returns-then-image-gt-LIMIT : goal.returns-then-image-gt-LIMIT
 returns-then-image-gt-LIMIT c = search (over_limit, rules)
 
-pub returns-in-At : goal.returns-in-At
-returns-in-At c = search (by_blocks, rules)
+pub returns-in-Some : goal.returns-in-Some
+returns-in-Some c = search (by_blocks, rules)
 
-pub returns-in-Nowhere : goal.returns-in-Nowhere
-returns-in-Nowhere c = search (by_blocks, rules)
+pub returns-in-None : goal.returns-in-None
+returns-in-None c = search (by_blocks, rules)
