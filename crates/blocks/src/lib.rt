@@ -7,7 +7,6 @@ ghost use Rattle.ground.specs.Lowest.{lowest};
 ghost use Rattle.blocks.specs.Checksum.{two_bytes, plus, checksum};
 ghost use Rattle.blocks.specs.Wrong.{check_in, wrong};
 
-
 // Bytes `from` and `from` + 1 as one number.
 fn two_bytes(bytes: &[u8], from: usize) -> usize
     requires { from + 1 < length bytes.now }
@@ -64,12 +63,5 @@ fn is_wrong(image: &[u8], b: usize) -> bool
 pub fn lowest_wrong(image: &[u8], count: usize) -> Option<usize>
     ensures { result ≡ lowest (wrong image.now) 0 count }
 {
-    let mut b = 0;
-    while b < count {
-        if is_wrong(image, b) {
-            return Some(b);
-        }
-        b += 1;
-    }
-    None
+    (0..count).find(|b| is_wrong(image, *b))
 }

@@ -6,6 +6,7 @@ use mathlib.Core.Bool.{Bool, true, false, cond}
 use native.Mathlib.Numerals.{add-one}
 use native.Mathlib.Decide.{dec_lt}
 use native.Mathlib.Omega.{arith}
+use Rattle.std.specs.List.{find, range_with_len}
 use Rattle.ground.specs.Lowest.{lowest}
 use Rattle.ground.proofs.Truths.{differ}
 
@@ -96,3 +97,10 @@ module _ (f : ℕ → Bool) where
   none_nowhere i zero none = refl
   none_nowhere i (suc n) none =
       rw (none i (omega arith) (omega arith)) (none_nowhere (suc i) n (λ h l u. none h (omega arith) (omega arith)))
+
+  -- what `find` of the library finds in a range is the lowest
+  pub find_lowest : (k n : ℕ) → find f (range_with_len k n) ≡ lowest f k n
+  unfolding lowest
+  find_lowest k zero = refl
+  find_lowest k (suc n) =
+      ap (λ (x : Option ℕ). cond (f k) (Some k) x) (ap (λ (j : ℕ). find f (range_with_len j n)) (add-one k) ∙ find_lowest (suc k) n)

@@ -1,7 +1,7 @@
 -- A run over an image, step by step: what was put out so far, and then the run of the rest, is the whole run. Assumes nothing.
 use Rattle.std.proofs.Common.{Ok, Err}
 use Prim.Native.Nat.{ℕ, suc, ◌+◌, ◌<◌, ◌≤◌}
-use mathlib.Core.Path.{◌≡◌, refl, sym, ap, ap₂, subst, ◌∙◌}
+use mathlib.Core.Path.{◌≡◌, refl, sym, ap, ap₂, ◌∙◌}
 use mathlib.Core.List.{List, [], ◌∷◌, ◌++◌, append-nil, append_assoc}
 use native.Mathlib.Numerals.{add-one}
 use native.Mathlib.Omega.{arith}
@@ -12,7 +12,7 @@ use Rattle.image_runs.specs.declared.Move.{Move}
 use Rattle.image_runs.specs.Run.{Step}
 use Rattle.image_runs.specs.declared.Progress.{Progress}
 use Rattle.image_runs.specs.Run.{step_at, puts, inserts, leads, Walked, ended, stopped, walked_on, resumed, walked}
-use Rattle.image_runs.specs.inner.Walking.{Small, Moved, Going}
+use Rattle.image_runs.specs.inner.Walking.{Moved, Going}
 
 module _ (p : Progress) (b : ℕ) (room : List ℕ) (m : Move) where
   pub put_passed : (t : ℕ) → m ≡ Move.Passed t → Moved p b m room (record { written = p.written; fences = p.fences; state = t }) room
@@ -100,24 +100,22 @@ module _ (image : List ℕ) (start : ℕ) (stream : List ℕ) where
 
   module _ (p : Progress) (room : List ℕ) (k : ℕ) (g : Going image start stream p room k) where
     -- one byte more, which a step takes
-    module _ (step : Step) (inside : k < length stream) (is : step ≡ step_at image p.state (get_or stream k 0)) where
-      so_far_by : (w : Step) → step ≡ w
+    module _ (inside : k < length stream) where
+      so_far_by : (step : Step) → step ≡ step_at image p.state (get_or stream k 0)
           → walked image start stream
           ≡ walked_on k (take p.written room) p.fences
-          (resumed (get_or stream k 0) (λ (t : ℕ). walked image t (drop (k + 1) stream)) w)
-      so_far_by w h =
-          g.so_far ∙ ap (walked_on k (take p.written room) p.fences) (next p.state k inside w (sym h ∙ is))
+          (resumed (get_or stream k 0) (λ (t : ℕ). walked image t (drop (k + 1) stream)) step)
+      so_far_by step is = g.so_far ∙ ap (walked_on k (take p.written room) p.fences) (next p.state k inside step is)
 
-      pub going_on : (m : Move) (r : Progress) (room' : List ℕ) → step ≡ Ok m → Small step → Moved p (get_or stream k 0) m room r room'
-          → Going image start stream r room' (k + 1)
-      going_on m r room' h small u =
-          let l : leads m < 256 = subst Small h small in
+      pub going_on : (m : Move) (r : Progress) (room' : List ℕ) → Ok m ≡ step_at image p.state (get_or stream k 0) → leads m < 256
+          → Moved p (get_or stream k 0) m room r room' → Going image start stream r room' (k + 1)
+      going_on m r room' is small u =
           record {
             few = omega (arith, g.few, u.written, puts_few (get_or stream k 0) m);
             fewer = omega (arith, g.fewer, u.fences, inserts_few m);
-            small = omega (arith, u.state);
+            small = omega (arith, u.state, small);
             so_far =
-                so_far_by (Ok m) h
+                so_far_by (Ok m) is
                 ∙ walked_further k 1 p.fences (inserts m) (take p.written room) (puts (get_or stream k 0) m) (rest (leads m))
                 ∙ ap₂ (λ (o : List ℕ) (c : ℕ). walked_on (k + 1) o c (rest (leads m))) (sym u.out) (sym u.fences)
                 ∙ ap (λ (t : ℕ). walked_on (k + 1) (take r.written room') r.fences (rest t)) (sym u.state);
@@ -126,10 +124,10 @@ module _ (image : List ℕ) (start : ℕ) (stream : List ℕ) where
           rest : ℕ → Walked
           rest t = walked image t (drop (k + 1) stream)
 
-      pub going_stops : (why : Stop) → step ≡ Err why → walked image start stream ≡ stopped why k
-      going_stops why h =
+      pub going_stops : (why : Stop) → Err why ≡ step_at image p.state (get_or stream k 0) → walked image start stream ≡ stopped why k
+      going_stops why is =
           let z : k + 0 ≡ k = omega arith in
-          so_far_by (Err why) h ∙ ap (stopped why) z
+          so_far_by (Err why) is ∙ ap (stopped why) z
 
     pub going_ends : length stream ≤ k → walked image start stream ≡ ended (take p.written room) p.fences p.state
     unfolding walked

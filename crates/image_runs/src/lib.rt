@@ -138,14 +138,11 @@ fn run_all<'a>(image: &'a [u8], start: usize, stream: &'a [u8], room: &mut [u8])
         fences: 0,
         state: start,
     };
-    let mut i = 0;
-    while i < stream.len() {
-        let byte = stream[i];
-        match take_byte(image, p.state, byte) {
+    for (i, byte) in stream.iter().enumerate() {
+        match take_byte(image, p.state, *byte) {
             Err(why) => return Err(refusal(why, i)),
-            Ok(taken) => p = put(p, byte, taken, room),
+            Ok(taken) => p = put(p, *byte, taken, room),
         }
-        i += 1;
     }
     Ok(p)
 }

@@ -1,19 +1,15 @@
 -- A zero behind the header is barred in no place, if there is a target fence for a fence byte to name. Assumes nothing.
-use Prim.Native.Nat.{ℕ, ◌+◌, ◌<◌, ◌≤◌}
+use Prim.Native.Nat.{ℕ, ◌<◌, ◌≤◌}
 use mathlib.Core.Path.{◌≡◌, refl, ap, ◌∙◌}
 use mathlib.Core.Bool.{Bool, false}
 use mathlib.Core.List.{List}
 use native.Mathlib.Omega.{arith}
 use borrow.Author.Tests.{lt-leb, ltb-true}
 use lib.Dec.{ltb, leb}
-use lib.ListN.{length}
-use Rattle.ground.proofs.Lowest.{lowest_on, lowest_step}
 use Rattle.ground.specs.Bytes.{at}
 use Rattle.places.specs.declared.Place.{Place}
 use Rattle.places.specs.Layout.{stands_at}
 use Rattle.barred.specs.Barred.{states_of, target_fences_of, next_below, barred_fence, barred_as, barred}
-use Rattle.layout.specs.Verdict.{lowest_barred}
-use Rattle.layout.specs.inner.Skipping.{barred_from, Skips}
 use Rattle.places.specs.inner.Standing.{Stands}
 use Rattle.places.proofs.Standing.{stands, by_test}
 
@@ -51,27 +47,6 @@ module _ (image : List ℕ) where
       by_place (Place.Next state a) s = next_zero state _
       by_place (Place.FenceNext state f) s = next_zero state _
 
-      zero-kept : at image i ≡ 0 → barred image i ≡ false
+      pub zero_kept : at image i ≡ 0 → barred image i ≡ false
       unfolding barred
-      zero-kept z = ap (λ (v : ℕ). barred_as image i v (stands_at 1 i)) z ∙ by_place (stands_at 1 i) (stands i)
-
-pub skips_none : (image : List ℕ) (from : ℕ) → Skips image from from
-skips_none image from = record { forward = omega arith; lowest_same = refl }
-
--- over one zero more
-pub skips_zero : (image : List ℕ) (from i : ℕ) → 0 < target_fences_of image → 39 ≤ from → Skips image from i → i < length image
-    → at image i ≡ 0 → Skips image from (i + 1)
-skips_zero image from i fence past s l z =
-    record {
-      forward = omega (arith, s.forward);
-      lowest_same =
-          s.lowest_same ∙ lowest_step (barred image) (length image) i l (zero-kept image fence i (omega (arith, s.forward)) z);
-    }
-
--- behind a byte that is not barred
-pub skips_on : (image : List ℕ) (i r : ℕ) → lowest_barred image ≡ barred_from image i → i < length image → barred image i ≡ false
-    → Skips image (i + 1) r → lowest_barred image ≡ barred_from image r
-skips_on image i r h l b s = lowest_on (barred image) (length image) i h l b ∙ s.lowest_same
-
-pub some_fence : {targets : ℕ} (image : List ℕ) → targets ≡ target_fences_of image → (targets ≡ 0 → ⊥) → 0 < target_fences_of image
-some_fence {targets} image e some = omega (arith, e, some)
+      zero_kept z = ap (λ (v : ℕ). barred_as image i v (stands_at 1 i)) z ∙ by_place (stands_at 1 i) (stands i)

@@ -1,4 +1,3 @@
 -- What serves the crate's private functions and their proofs alone, and what the proofs of `image` and `image_runs` say of an accepted image
 -- (Faultless). A reader need not believe it.
-pub mod Skipping
 pub mod Faultless

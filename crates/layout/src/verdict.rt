@@ -1,9 +1,8 @@
 // What is wrong with an image, and where.
 ghost use Rattle.std.specs.Prelude.{◌<◌, ◌≤◌, ◌≡◌, length, None};
 ghost use Rattle.places.specs.Layout.{limit};
-ghost use Rattle.barred.specs.Barred.{target_fences_of};
+ghost use Rattle.barred.specs.Barred.{target_fences_of, barred};
 ghost use Rattle.layout.specs.Verdict.{block_count, lowest_barred, stages, verdict_of};
-ghost use Rattle.layout.specs.inner.Skipping.{Skips};
 
 use answers::{Refusal, Verdict};
 
@@ -18,47 +17,24 @@ fn block_count(image: &[u8]) -> usize
     image.len().div_ceil(512).max(1)
 }
 
-// The first byte from here on that is not zero, or the end.
-fn past_zeros(image: &[u8], from: usize) -> usize
-    requires { (39 ≤ from) × (0 < target_fences_of image.now) }
-    ensures { Skips image.now from result }
-{
-    let mut i = from;
-    while i < image.len() {
-        if image[i] != 0 {
-            return i;
-        }
-        i += 1;
-    }
-    i
-}
-
-// The next byte to look at closely: most bytes are zeros behind the header, and such a byte is barred nowhere if there is a target fence.
-fn next_to_examine(image: &[u8], targets: usize, from: usize) -> usize
+// Whether the value of a byte is barred. Most bytes are zeros behind the header, and such a byte is barred nowhere if there is a target fence.
+#[tactic(auto, using(crate::proofs::Zeros::zero_kept))]
+fn is_barred(image: &[u8], targets: usize, i: usize) -> bool
     requires { targets ≡ target_fences_of image.now }
-    ensures { Skips image.now from result }
+    ensures { result ≡ barred image.now i }
 {
-    if from < 39 {
-        return from;
+    if 39 <= i && 0 < targets && ground::byte_at(image, i) == 0 {
+        false
+    } else {
+        barred::is_barred(image, i)
     }
-    if targets == 0 {
-        return from;
-    }
-    past_zeros(image, from)
 }
 
 fn lowest_barred(image: &[u8]) -> Option<usize>
     ensures { result ≡ lowest_barred image.now }
 {
     let targets = ground::number_at(image, 6);
-    let mut i = 0;
-    while i < image.len() {
-        if barred::is_barred(image, i) {
-            return Some(i);
-        }
-        i = next_to_examine(image, targets, i + 1);
-    }
-    None
+    (0..image.len()).find(|i| is_barred(image, targets, *i))
 }
 
 // What is wrong with an image whose blocks are right.

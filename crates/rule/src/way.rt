@@ -87,14 +87,7 @@ fn taken(found: Option<usize>) -> Choice
 fn lowest_fence(fences: &[u64], pending: Table) -> Option<usize>
     ensures { result ≡ lowest (serves fences.now pending) 0 (length fences.now) }
 {
-    let mut g = 0;
-    while g < fences.len() {
-        if fence_table(fences, g).at_least(pending) {
-            return Some(g);
-        }
-        g += 1;
-    }
-    None
+    (0..fences.len()).find(|g| fence_table(fences, *g).at_least(pending))
 }
 
 // The highest-numbered fence, if it will do.

@@ -1,13 +1,18 @@
-use mathlib.Core.Path.{sym, ◌∙◌}
-use borrow.Author.Rules.{rules}
-use Rattle.ground.proofs.Lowest.{lowest_here, lowest_on, lowest_none}
+-- `lowest_wrong` meets its contract: the first block that is found wrong is the lowest. Assumes nothing.
+use mathlib.Core.Path.{refl, sym, ◌∙◌}
+use native.Mathlib.Omega.{arith}
+use Rattle.std.proofs.Common.{rules, tests}
+use Rattle.std.proofs.lemmas.Iterator.{YieldsList-from_range}
+use Rattle.std.proofs.lemmas.Iterator.Search.{find_from_yields_List}
+use Rattle.std.proofs.lemmas.Iterator.Adapters.{option_map_id}
+use Rattle.ground.proofs.Lowest.{find_lowest}
+use Rattle.blocks.specs.Wrong.{wrong}
 use Rattle.blocks.proofs.lowest_wrong.Goals as goal
 
-pub returns-then-is_wrong : goal.returns-then-is_wrong
-returns-then-is_wrong c = lowest_here _ _ _ c.loop-b.invariant (search rules) (sym c.is_wrong.ensures ∙ c.if-is_wrong.true)
-
-pub loop-b-preserved : goal.loop-b-preserved
-loop-b-preserved c = lowest_on _ _ _ c.loop-b.invariant (search rules) (sym c.is_wrong.ensures ∙ c.if-is_wrong.false)
-
 pub returns : goal.returns
-returns c = lowest_none _ _ _ c.loop-b.invariant c.loop-b-test.false
+returns c =
+    let a = c.args in
+    sym (option_map_id _)
+    ∙ find_from_yields_List (wrong a.image.now) _ _ _ c.find.ensures.ran (YieldsList-from_range 0 a.count a.count refl (omega arith))
+    (λ x b q k. search (rules, tests))
+    ∙ find_lowest (wrong a.image.now) 0 a.count

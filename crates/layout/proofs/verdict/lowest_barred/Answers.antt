@@ -1,17 +1,19 @@
-use mathlib.Core.Path.{sym, ◌∙◌}
-use borrow.Author.Rules.{rules}
-use Rattle.ground.proofs.Lowest.{lowest_here, lowest_none}
-use Rattle.layout.proofs.Zeros.{skips_on}
+-- `lowest_barred` meets its contract: the first byte that is found barred is the lowest. Assumes nothing.
+use mathlib.Core.Path.{refl, sym, ◌∙◌}
+use lib.ListN.{length}
+use native.Mathlib.Omega.{arith}
+use Rattle.std.proofs.Common.{rules, tests}
+use Rattle.std.proofs.lemmas.Iterator.{YieldsList-from_range}
+use Rattle.std.proofs.lemmas.Iterator.Search.{find_from_yields_List}
+use Rattle.std.proofs.lemmas.Iterator.Adapters.{option_map_id}
+use Rattle.ground.proofs.Lowest.{find_lowest}
+use Rattle.barred.specs.Barred.{barred}
 use Rattle.layout.proofs.verdict.lowest_barred.Goals as goal
 
-pub returns-then-is_barred : goal.returns-then-is_barred
-returns-then-is_barred c = lowest_here _ _ _ c.loop-i.invariant.1 (search rules) (sym c.is_barred.ensures ∙ c.if-is_barred.true)
-
-pub loop-i-preserved : goal.loop-i-preserved
-loop-i-preserved c =
-    let held = c.loop-i.invariant in
-    let kept = sym c.is_barred.ensures ∙ c.if-is_barred.false in
-    (held.0, skips_on _ _ _ held.1 (search rules) kept c.next_to_examine-i.ensures)
-
 pub returns : goal.returns
-returns c = lowest_none _ _ _ c.loop-i.invariant.1 c.loop-i-test.false
+returns c =
+    let image = c.args.image.now in
+    sym (option_map_id _)
+    ∙ find_from_yields_List (barred image) _ _ _ c.find.ensures.ran (YieldsList-from_range 0 (length image) (length image) refl (omega arith))
+    (λ x b q k. search (rules, tests))
+    ∙ find_lowest (barred image) 0 (length image)
