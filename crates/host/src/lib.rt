@@ -18,7 +18,7 @@ ghost use Rattle.drawing_reader.specs.Undrawing.{Undrawn};
 ghost use Rattle.listing.specs.Listed.{Listed};
 ghost use Rattle.host.specs.Border.{number_in, relation_of, compared_as, Tells, TellsRelation};
 
-use answers::Answer;
+use answers::{Answer, Done};
 use comparison::Compared;
 
 // Sets the five numbers, and returns the first of them, the refusal's number.
@@ -26,7 +26,7 @@ fn tell(what: Answer, answer: &mut [u64; 5]) -> u64
     ensures number { result ≡ number_in what }
     ensures numbers { answer.new ≡ numbers_of what }
 {
-    let numbers = what.numbers();
+    let numbers = answers::numbers(what);
     *answer = numbers;
     numbers[0]
 }
@@ -154,12 +154,10 @@ fn relation_in(compared: Compared) -> u64
 fn as_answer(compared: Compared) -> Answer
     ensures { result ≡ compared_as compared }
 {
-    match compared {
-        Ok(_) => Answer::Done {
-            written: 0,
-            fences: 0,
-            state: 0,
-        },
-        Err(why) => Err(why),
-    }
+    compared?;
+    Ok(Done {
+        written: 0,
+        fences: 0,
+        state: 0,
+    })
 }

@@ -57,7 +57,8 @@ fn follow<'a>(input: &'a [u8], fields: &'a [u8], buffer: &mut [u8]) {
     io::write_all(1, field(fields, 1));
     match letter(field(fields, 0)) {
         b'g' => {
-            generate(input, fields, buffer);
+            // The image alone is wanted; what the answer says is tried by `i`.
+            let _ = generate(input, fields, buffer);
         }
         b'i' => tries::image(generate(input, fields, buffer), buffer),
         b'h' => tries::image(handmade::write(size(fields, 2), buffer), buffer),

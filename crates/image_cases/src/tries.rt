@@ -69,8 +69,7 @@ pub(crate) fn both(fields: &[u8], buffer: &[u8]) {
 }
 
 fn read_words(image: &[u8], rows: &mut [u16]) {
-    let reading = image::reader::read(image, rows);
-    let verdict = reading.verdict;
+    let verdict = image::reader::read(image, rows).map(|_| ());
     show::print_verdict(verdict);
     show::print_words(rows);
     io::write_all(1, b"\n");

@@ -12,7 +12,7 @@ fn show_filled(text: &[u8], size: u64) {
     input[..begun].copy_from_slice(&text[..begun]);
     if 0 < n {
         input[n - 1] = b'\n';
-        show::show(cases::front(&input, n));
+        let _ = show::show(cases::front(&input, n));
     }
 }
 
@@ -22,7 +22,7 @@ fn show_case(fields: &[u8]) {
     io::write_all(1, b":\n");
     let size = number(field(fields, 1));
     if size == 0 {
-        show::show(field(fields, 2));
+        let _ = show::show(field(fields, 2));
         return;
     }
     show_filled(field(fields, 2), size);

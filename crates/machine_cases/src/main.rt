@@ -5,7 +5,6 @@
 // The stored output comes from the model in `host/model`, which shares nothing with this code: `tools/expect-machine-cases` asks it for each pair.
 #![tactic(auto)]
 
-use answers::Verdict;
 use cases::fields::{field, groups_from};
 use machine::machine::{Machine, Outcome};
 use models::model::Model;
@@ -50,12 +49,10 @@ fn try_models(way: u64, upstream: Model, target: Model) {
 }
 
 fn built_in_pair(way: u64, upstream: u64, target: u64) {
-    let one = built_ins::built_in(upstream);
-    let two = built_ins::built_in(target);
-    let from = one.model;
-    let onto = two.model;
-    io::write_all(1, b" ");
-    try_models(way, from, onto);
+    if let (Ok(from), Ok(onto)) = (built_ins::built_in(upstream), built_ins::built_in(target)) {
+        io::write_all(1, b" ");
+        try_models(way, from, onto);
+    }
 }
 
 fn built_in_row(way: u64, upstream: u64) {
@@ -126,45 +123,30 @@ fn print_states(rows: &[u16], states: usize, letters: usize) {
 }
 
 fn tso_on_arm(way: u64) {
-    let one = built_ins::built_in(1);
-    let two = built_ins::built_in(15);
-    let from = one.model;
-    let onto = two.model;
-    let mut rows = [0u16; WORDS];
-    let outcome = generate(way, from, onto, &mut rows);
-    match outcome {
-        Ok(x) => {
-            print_states(&rows, x.states, letters_of(x));
-        }
-        _ => {
-            print_outcome(outcome);
+    if let (Ok(from), Ok(onto)) = (built_ins::built_in(1), built_ins::built_in(15)) {
+        let mut rows = [0u16; WORDS];
+        match generate(way, from, onto, &mut rows) {
+            Ok(x) => print_states(&rows, x.states, letters_of(x)),
+            refused => print_outcome(refused),
         }
     }
 }
 
 // The fields: a name, the upstream text, the target text.
 fn try_pair(fields: &[u8]) {
-    let one = models::reader::read(field(fields, 1));
-    let two = models::reader::read(field(fields, 2));
-    let verdict = one.verdict;
-    let other = two.verdict;
     io::write_all(1, field(fields, 0));
-    match verdict {
-        Ok(()) => match other {
-            Ok(()) => {
-                let from = one.model;
-                let onto = two.model;
-                io::write_all(1, b", ");
-                try_models(0, from, onto);
-                io::write_all(1, b", ");
-                try_models(1, from, onto);
-                io::write_all(1, b"\n");
-            }
-            Err(_) => {
-                io::write_all(1, b": the target text is refused\n");
-            }
-        },
-        Err(_) => {
+    match (models::reader::read(field(fields, 1)), models::reader::read(field(fields, 2))) {
+        (Ok(from), Ok(onto)) => {
+            io::write_all(1, b", ");
+            try_models(0, from, onto);
+            io::write_all(1, b", ");
+            try_models(1, from, onto);
+            io::write_all(1, b"\n");
+        }
+        (Ok(_), Err(_)) => {
+            io::write_all(1, b": the target text is refused\n");
+        }
+        (Err(_), _) => {
             io::write_all(1, b": the upstream text is refused\n");
         }
     }

@@ -5,5 +5,5 @@
 fn main() {
     let mut input = [0u8; 32769];
     let n = io::read_full(0, &mut input);
-    show::show(&input[..n]);
+    let _ = show::show(&input[..n]);
 }
