@@ -6,7 +6,7 @@ use mathlib.Core.List.{List, ◌++◌}
 use borrow.Author.Tests.{le-leb, lt-leb}
 use lib.ListN.{length, drop}
 use Rattle.answers.specs.declared.Refusal.{Refusal}
-use Rattle.answers.specs.Answer.{Answer, done}
+use Rattle.answers.specs.Answer.{Answer, wrote}
 use Rattle.answers.specs.Buffer.{buffer_with, answer_with}
 
 pub buffer_fits : (text out : List ℕ) → length text ≤ length out → buffer_with text out ≡ text ++ drop (length text) out
@@ -18,7 +18,7 @@ unfolding buffer_with
 buffer_not text out l = rw (lt-leb _ _ l)
 
 pub answer_fits : (text : List ℕ) (fences state room : ℕ) → length text ≤ room
-    → answer_with text fences state room ≡ Ok (done (length text) fences state)
+    → answer_with text fences state room ≡ Ok (wrote (length text) fences state)
 unfolding answer_with
 answer_fits text fences state room l = rw (le-leb _ _ l)
 

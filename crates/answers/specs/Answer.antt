@@ -9,8 +9,8 @@ use Rattle.answers.specs.declared.Done.{Done}
 abbrev pub Answer : Type 0
 Answer = Result Done Refusal
 
-abbrev pub done : ℕ → ℕ → ℕ → Done
-done written fences state = record { written = written; fences = fences; state = state }
+abbrev pub wrote : ℕ → ℕ → ℕ → Done
+wrote written fences state = record { written = written; fences = fences; state = state }
 
 -- what is said of a text or an image that is read
 abbrev pub Verdict : Type 0

@@ -2,7 +2,7 @@
 -- stay".
 use Rattle.std.specs.Prelude.{ℕ, cond, List, ◌++◌, leb, length, drop, Ok, Err}
 use Rattle.answers.specs.declared.Refusal.{Refusal}
-use Rattle.answers.specs.Answer.{Answer, done}
+use Rattle.answers.specs.Answer.{Answer, wrote}
 
 -- the buffer after bytes have been written to it
 unfoldable pub buffer_with : List ℕ → List ℕ → List ℕ
@@ -10,4 +10,4 @@ buffer_with text out = cond (leb (length text) (length out)) (text ++ drop (leng
 
 -- the answer of a call that writes text, with its fences and its end state, where the buffer has room for so many bytes
 unfoldable pub answer_with : List ℕ → ℕ → ℕ → ℕ → Answer
-answer_with text fences state room = cond (leb (length text) room) (Ok (done (length text) fences state)) (Err Refusal.BufferTooSmall)
+answer_with text fences state room = cond (leb (length text) room) (Ok (wrote (length text) fences state)) (Err Refusal.BufferTooSmall)

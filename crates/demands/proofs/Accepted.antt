@@ -9,7 +9,7 @@ use mathlib.Core.List.{List, [], ◌∷◌, map}
 use native.Mathlib.Omega.{arith}
 use lib.ListN.{length, take, length-map}
 use Rattle.ground.proofs.Truths.{differ}
-use Rattle.answers.specs.Answer.{Answer, done}
+use Rattle.answers.specs.Answer.{Answer, wrote}
 use Rattle.answers.specs.Given.{Given, gives, Delivers}
 use Rattle.tables.specs.declared.table.Row.{Row}
 use Rattle.tables.specs.declared.table.Column.{Column}
@@ -115,7 +115,7 @@ gives_ran number upstream target stream bytes fences state e = by (run_is number
         }
 
 module _ {number : ℕ} {upstream target stream out : List ℕ} {written fences state : ℕ} {after : List ℕ}
-    (call : Delivers (outcome number upstream target stream) out (Ok (done written fences state)) after) where
+    (call : Delivers (outcome number upstream target stream) out (Ok (wrote written fences state)) after) where
   pub done_right : RunDone number upstream target stream out written fences state after
   done_right =
       let gave : Gave (outcome number upstream target stream) out written fences state after = done_gave call in

@@ -6,7 +6,7 @@ use mathlib.Core.Path.{◌≡◌, sym, ap, ◌∙◌}
 use mathlib.Core.List.{List, [], ◌∷◌}
 use Rattle.ground.proofs.Truths.{differ}
 use Rattle.answers.specs.declared.Refusal.{Refusal}
-use Rattle.answers.specs.Answer.{Answer, done}
+use Rattle.answers.specs.Answer.{Answer, wrote}
 use Rattle.answers.specs.Answer.{number_of, place_of, numbers_of}
 use Rattle.host.specs.Border.{number_in, Tells}
 use Rattle.demands.specs.Border.{TellsDone, TellsRefused}
@@ -30,13 +30,13 @@ module _ {Promise : Answer → List ℕ → Type 0} {number : ℕ} {numbers afte
   tells_done e = by call.what call.promised call.returned call.told
     where
       by : (r : Answer) → Promise r after → number ≡ number_in r → numbers ≡ numbers_of r → TellsDone Promise numbers after
-      by (Ok (done written fences state)) p n t = record { written = written; fences = fences; state = state; told = t; promised = p }
+      by (Ok d) p n t = record { written = d.written; fences = d.fences; state = d.state; told = t; promised = p }
       by (Err why) p n t = absurd (never_0 why (sym e ∙ n))
 
   pub tells_refused : (number ≡ 0 → ⊥) → TellsRefused Promise number numbers after
   tells_refused other = by call.what call.promised call.returned call.told
     where
       by : (r : Answer) → Promise r after → number ≡ number_in r → numbers ≡ numbers_of r → TellsRefused Promise number numbers after
-      by (Ok (done written fences state)) p n t = absurd (other n)
+      by (Ok d) p n t = absurd (other n)
       by (Err why) p n t =
           record { why = why; number_is = n; told = t ∙ ap (λ (k : ℕ). k ∷ place_of why ∷ 0 ∷ 0 ∷ 0 ∷ []) (sym n); promised = p }

@@ -9,7 +9,8 @@ use lib.ListN.{length, take, drop}
 use lib.Seq.{take-append_seam, drop-append_seam}
 use Rattle.ground.proofs.Truths.{differ}
 use Rattle.answers.specs.declared.Refusal.{Refusal}
-use Rattle.answers.specs.Answer.{Answer, done}
+use Rattle.answers.specs.declared.Done.{Done}
+use Rattle.answers.specs.Answer.{Answer, wrote}
 use Rattle.answers.specs.Given.{Given, gives, refuses, answer_of, buffer_of, Delivers}
 use Rattle.answers.proofs.Laws.{buffer_fits, buffer_not, answer_fits, answer_not}
 
@@ -20,22 +21,23 @@ pub record Gave (given : Given) (out : List ℕ) (written fences state : ℕ) (a
   pub fits : written ≤ length out
   pub rest : drop written after ≡ drop written out
 
-pub done_gave : {g : Given} {out after : List ℕ} {w f s : ℕ} → Delivers g out (Ok (done w f s)) after → Gave g out w f s after
+pub done_gave : {g : Given} {out after : List ℕ} {w f s : ℕ} → Delivers g out (Ok (wrote w f s)) after → Gave g out w f s after
 done_gave {g} {out} {after} {w} {f} {s} d = by g refl d.answer d.buffer
   where
-    by : (x : Given) → g ≡ x → Ok (done w f s) ≡ answer_of x (length out) → after ≡ buffer_of x out → Gave g out w f s after
+    by : (x : Given) → g ≡ x → Ok (wrote w f s) ≡ answer_of x (length out) → after ≡ buffer_of x out → Gave g out w f s after
     by (refuses why) e a b = differ (cc)
     by (gives bytes n t) e a b = fit (dec_le (length bytes) (length out))
       where
         fit : Dec (length bytes ≤ length out) → Gave g out w f s after
         fit (no l) =
-            let z : Ok (done w f s) ≡ Err Refusal.BufferTooSmall = a ∙ answer_not bytes n t (length out) (omega arith) in
+            let z : Ok (wrote w f s) ≡ Err Refusal.BufferTooSmall = a ∙ answer_not bytes n t (length out) (omega arith) in
             differ (cc)
         fit (yes l) =
-            let z : Ok (done w f s) ≡ Ok (done (length bytes) n t) = a ∙ answer_fits bytes n t (length out) l in
-            let size : w ≡ length bytes = cc in
-            let fences : n ≡ f = cc in
-            let state : t ≡ s = cc in
+            let z : Path Answer (Ok (wrote w f s)) (Ok (wrote (length bytes) n t)) = a ∙ answer_fits bytes n t (length out) l in
+            let same : wrote w f s ≡ wrote (length bytes) n t = cc in
+            let size : w ≡ length bytes = ap (λ (x : Done). x.written) same in
+            let fences : n ≡ f = ap (λ (x : Done). x.fences) (sym same) in
+            let state : t ≡ s = ap (λ (x : Done). x.state) (sym same) in
             let all : after ≡ bytes ++ drop (length bytes) out = b ∙ buffer_fits bytes out l in
             let front : take w after ≡ bytes =
             ap (take w) all ∙ ap (λ (k : ℕ). take k (bytes ++ drop (length bytes) out)) size ∙ take-append_seam bytes (drop (length bytes) out) in
@@ -65,7 +67,7 @@ refused_withheld {g} {out} {after} {why} d = by g refl d.answer d.buffer
       where
         fit : Dec (length bytes ≤ length out) → (after ≡ out) × Withheld g (length out) why
         fit (yes l) =
-            let z : Err why ≡ Ok (done (length bytes) n t) = a ∙ answer_fits bytes n t (length out) l in
+            let z : Err why ≡ Ok (wrote (length bytes) n t) = a ∙ answer_fits bytes n t (length out) l in
             differ (cc)
         fit (no l) =
             let z : Err why ≡ Err Refusal.BufferTooSmall = a ∙ answer_not bytes n t (length out) (omega arith) in
@@ -84,7 +86,7 @@ module _ {g : Given} {out after : List ℕ} {r : Answer} (d : Delivers g out r a
   withheld_refused (exceeds {bytes = bytes} {f = f} {s = s} e l) =
       d.answer ∙ ap (λ (x : Given). answer_of x (length out)) e ∙ answer_not bytes f s (length out) l
 
-  pub gave_done : {bytes : List ℕ} {f s : ℕ} → g ≡ gives bytes f s → length bytes ≤ length out → r ≡ Ok (done (length bytes) f s)
+  pub gave_done : {bytes : List ℕ} {f s : ℕ} → g ≡ gives bytes f s → length bytes ≤ length out → r ≡ Ok (wrote (length bytes) f s)
   gave_done {bytes} {f} {s} e l = d.answer ∙ ap (λ (x : Given). answer_of x (length out)) e ∙ answer_fits bytes f s (length out) l
 
   pub gave_bytes : {bytes : List ℕ} {f s : ℕ} → g ≡ gives bytes f s → length bytes ≤ length out → take (length bytes) after ≡ bytes

@@ -11,7 +11,7 @@ use lib.ListN.{length, take, drop, length-map}
 use Rattle.comparison.specs.Comparison.{Compared}
 use Rattle.ground.proofs.Truths.{differ}
 use Rattle.answers.specs.declared.Refusal.{Refusal}
-use Rattle.answers.specs.Answer.{Answer, done}
+use Rattle.answers.specs.Answer.{Answer, wrote}
 use Rattle.answers.specs.Answer.{number_of, place_of, numbers_of}
 use Rattle.answers.specs.Given.{Given, refuses, Delivers, Answers}
 use Rattle.operations.specs.Operation.{byte_of}
@@ -55,8 +55,8 @@ refused_writes_nothing d = (refl, (refused_withheld d).0)
 
 -- And a call that succeeds changes the first bytes alone, as many as it tells: bytes past those written stay.
 pub done_writes_the_front : {given : Given} {out after : List ℕ} {written fences state : ℕ}
-    → Delivers given out (Ok (done written fences state)) after
-    → (numbers_of (Ok (done written fences state)) ≡ 0 ∷ 0 ∷ written ∷ fences ∷ state ∷ [])
+    → Delivers given out (Ok (wrote written fences state)) after
+    → (numbers_of (Ok (wrote written fences state)) ≡ 0 ∷ 0 ∷ written ∷ fences ∷ state ∷ [])
     × (written ≤ length out) × (length (take written after) ≡ written) × (drop written after ≡ drop written out)
 done_writes_the_front d =
     let gave = done_gave d in

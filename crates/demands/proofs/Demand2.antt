@@ -11,7 +11,7 @@ use mathlib.Core.List.{List, [], ◌∷◌}
 use lib.ListN.{length, take}
 use Rattle.ground.specs.Bytes.{at}
 use Rattle.answers.specs.declared.Refusal.{Refusal}
-use Rattle.answers.specs.Answer.{Answer, done}
+use Rattle.answers.specs.Answer.{Answer, wrote}
 use Rattle.answers.specs.Answer.{Verdict}
 use Rattle.answers.specs.Given.{gives, unless_refused, Delivers, Answers}
 use Rattle.operations.specs.Operation.{fence_bytes}
@@ -60,13 +60,13 @@ use Rattle.demands.proofs.Threads as threads
 
 -- An accepted direct run has written a right output.
 pub run_done : {number : ℕ} {upstream target stream out : List ℕ} {written fences state : ℕ} {after : List ℕ}
-    → Delivers (outcome number upstream target stream) out (Ok (done written fences state)) after
+    → Delivers (outcome number upstream target stream) out (Ok (wrote written fences state)) after
     → RunDone number upstream target stream out written fences state after
 run_done = accepted.done_right
 
 -- An accepted call of generating has written the image of the minimal machine.
 pub generate_done : (number : ℕ) (upstream target : List ℕ) {out : List ℕ} {written fences state : ℕ} {after : List ℕ}
-    → Answers (ImageGiven number upstream target) out (Ok (done written fences state)) after
+    → Answers (ImageGiven number upstream target) out (Ok (wrote written fences state)) after
     → GenerateDone number upstream target out written fences state after
 generate_done number upstream target = generating.image_done number upstream target
 
@@ -96,7 +96,7 @@ module _ {m : Models} {image : List ℕ} (i : MinimalImage m image) where
 
   -- The end state of an image run from 0 is the state of the stream.
   pub image_run_leads : (stream : List ℕ) {out : List ℕ} {written fences state : ℕ} {after : List ℕ}
-      → Delivers (run_over image 0 stream) out (Ok (done written fences state)) after
+      → Delivers (run_over image 0 stream) out (Ok (wrote written fences state)) after
       → (input : Stream) → StreamIn stream input → state ≡ state_after m image input
   image_run_leads stream call input reads =
       let d = threads.thread_done i (block fresh stream call) in
@@ -136,7 +136,7 @@ module _ {m : Models} {image : List ℕ} (i : MinimalImage m image) where
 
 -- Any accepted image, handmade too: the fences that a run tells are the fence bytes that it wrote, and it ends in one of the image's states.
 pub any_image_run : (image : List ℕ) → ((k : ℕ) → at image k < 256) → (start : ℕ) (stream : List ℕ) {out : List ℕ} {written fences state : ℕ}
-    {after : List ℕ} → Delivers (run_over image start stream) out (Ok (done written fences state)) after
+    {after : List ℕ} → Delivers (run_over image start stream) out (Ok (wrote written fences state)) after
     → (fences ≡ fence_bytes (take written after)) × (state < at image 4)
 any_image_run image bytes start stream call =
     let walk = threads.gives_walk image start stream (done_gave call).is in (
@@ -148,37 +148,37 @@ any_image_run image bytes start stream call =
 pub image_written_back : (image : List ℕ) → verdict_of image ≡ (Ok tt) → {out header after : List ℕ} {r : Answer}
     → Rewrites image out header r after
     → length image ≤ length out
-    → (r ≡ Ok (done (length image) 0 0)) × (take (length image) after ≡ image)
+    → (r ≡ Ok (wrote (length image) 0 0)) × (take (length image) after ≡ image)
     × (header ≡ at image 3 ∷ at image 4 ∷ at image 5 ∷ at image 6 ∷ [])
 unfolding written_back
 image_written_back image accepted call l =
-    let is : written_back image ≡ gives image 0 0 = ap (λ (v : Verdict). unless_refused v (gives image 0 0)) accepted in
+    let is : written_back image ≡ gives image 0 0 = ap (λ (v : Verdict). unless_refused v (λ _. gives image 0 0)) accepted in
     let done = gave_done call.delivered is l in
     (done, gave_bytes call.delivered is l, call.header_told ∙ ap (header_as image) done)
 
 -- An image that was drawn has its drawing in the buffer, and a drawing that was read back the image that it is the drawing of.
 pub draw_done : (image : List ℕ) → ((k : ℕ) → at image k < 256) → {out : List ℕ} {written fences state : ℕ} {after : List ℕ}
-    → Delivers (drawn image) out (Ok (done written fences state)) after → DrawDone image out written fences state after
+    → Delivers (drawn image) out (Ok (wrote written fences state)) after → DrawDone image out written fences state after
 draw_done = drawing_done
 
 pub undraw_done : (text : List ℕ) {out : List ℕ} {written fences state : ℕ} {after : List ℕ}
-    → Answers (Undrawn text) out (Ok (done written fences state)) after → UndrawDone text out written fences state after
+    → Answers (Undrawn text) out (Ok (wrote written fences state)) after → UndrawDone text out written fences state after
 undraw_done = undrawing_done
 
 -- From image to drawing to image: what was drawn is read back as the image's own bytes.
 pub drawn_back : (image : List ℕ) → ((k : ℕ) → at image k < 256) → {out : List ℕ} {written fences state : ℕ} {after : List ℕ}
-    → Delivers (drawn image) out (Ok (done written fences state)) after
+    → Delivers (drawn image) out (Ok (wrote written fences state)) after
     → {back : List ℕ} {r : Answer} {back-after : List ℕ} → Answers (Undrawn (take written after)) back r back-after → length image ≤ length back
-    → (r ≡ Ok (done (length image) 0 0)) × (take (length image) back-after ≡ image)
+    → (r ≡ Ok (wrote (length image) 0 0)) × (take (length image) back-after ≡ image)
 drawn_back image bytes drew call l =
     let is = image_given (drawing_done image bytes drew).drawn call.right in
     (gave_done call.delivered is l, gave_bytes call.delivered is l)
 
 -- From drawing to image to drawing: an image that was read from a drawing is drawn as that text.
 pub undrawn_back : (text : List ℕ) {out : List ℕ} {written fences state : ℕ} {after : List ℕ}
-    → Answers (Undrawn text) out (Ok (done written fences state)) after
+    → Answers (Undrawn text) out (Ok (wrote written fences state)) after
     → {back : List ℕ} {r : Answer} {back-after : List ℕ} → Delivers (drawn (take written after)) back r back-after → length text ≤ length back
-    → (r ≡ Ok (done (length text) 0 0)) × (take (length text) back-after ≡ text)
+    → (r ≡ Ok (wrote (length text) 0 0)) × (take (length text) back-after ≡ text)
 undrawn_back text read call l =
     let is = drawing_given (undrawing_done text read).drawn in
     (gave_done call is l, gave_bytes call is l)
@@ -197,21 +197,21 @@ drawing_names = renaming.drawing_names
 pub names_changed : {image : List ℕ} (upstream target upstream' target' rest : List ℕ) → NameFormed upstream → NameFormed target
     → NameFormed upstream' → NameFormed target' → DrawnAs image (with_names upstream target rest)
     → {out : List ℕ} {r : Answer} {after : List ℕ} → Answers (Undrawn (with_names upstream' target' rest)) out r after → length image ≤ length out
-    → (r ≡ Ok (done (length image) 0 0)) × Renamed upstream' target' (take (length image) after) image
+    → (r ≡ Ok (wrote (length image) 0 0)) × Renamed upstream' target' (take (length image) after) image
 names_changed {image} upstream target upstream' target' rest fu ft fu' ft' d {out} {after = after} call l =
     let new = renaming.renamed_drawn upstream target upstream' target' rest fu ft fu' ft' d in
     let other : List ℕ = new.0 in
     let size : length other ≡ length image = new.2.size in
     let is = image_given new.1 call.right in
     let fits : length other ≤ length out = subst (λ (n : ℕ). n ≤ length out) (sym size) l in (
-      gave_done call.delivered is fits ∙ ap (λ (n : ℕ). Ok (done n 0 0)) size,
+      gave_done call.delivered is fits ∙ ap (λ (n : ℕ). Ok (wrote n 0 0)) size,
       subst (λ (x : List ℕ). Renamed upstream' target' x image)
           (sym (gave_bytes call.delivered is fits) ∙ ap (λ (n : ℕ). take n after) size) new.2,
     )
 
 -- A listing's lines are the machine's, `out` is the direct run's output and `fences` its count.
 pub list_done : (input : List ℕ) {out : List ℕ} {written fences state : ℕ} {after : List ℕ}
-    → Answers (Listed input) out (Ok (done written fences state)) after → ListDone input out written fences state after
+    → Answers (Listed input) out (Ok (wrote written fences state)) after → ListDone input out written fences state after
 list_done input = listing.listing_done input
 
 module _ {input out : List ℕ} {written count state : ℕ} {after : List ℕ} (listed : ListDone input out written count state after) where
@@ -249,20 +249,20 @@ module _ {input out : List ℕ} {written count state : ℕ} {after : List ℕ} (
   pub listing_out_is_the_run : {room run-after : List ℕ} {r : Answer}
       → Delivers (outcome (way_number listed.parts.way) listed.parts.upstream listed.parts.target listed.parts.stream) room r run-after
       → length listed.output ≤ length room
-      → (r ≡ Ok (done (length listed.output) count 0)) × (take (length listed.output) run-after ≡ listed.output)
+      → (r ≡ Ok (wrote (length listed.output) count 0)) × (take (length listed.output) run-after ≡ listed.output)
   listing_out_is_the_run call l = (
-    gave_done call listed.ran l ∙ ap (λ (n : ℕ). Ok (done (length listed.output) n 0)) (sym listed.counted),
+    gave_done call listed.ran l ∙ ap (λ (n : ℕ). Ok (wrote (length listed.output) n 0)) (sym listed.counted),
     gave_bytes call listed.ran l,
   )
 
 -- A model's text that is accepted is written back unchanged,
 pub model_written_back : (text : List ℕ) {m : Model} → Told text (accepting m) → {out : List ℕ} {r : Answer} {after : List ℕ}
     → Delivers (back_given text) out r after → length text ≤ length out
-    → (r ≡ Ok (done (length text) 0 0)) × (take (length text) after ≡ text)
+    → (r ≡ Ok (wrote (length text) 0 0)) × (take (length text) after ≡ text)
 model_written_back text t call l = (gave_done call (told_given t) l, gave_bytes call (told_given t) l)
 
 -- and a built-in model's text is that of the model in 01's tables.
 pub built_in_written : (number : ℕ) → number ≤ 15 → {out : List ℕ} {r : Answer} {after : List ℕ} → Delivers (built_in_given number) out r after
     → length (text_of (built_in number)) ≤ length out
-    → (r ≡ Answer.Done (length (text_of (built_in number))) 0 0) × (take (length (text_of (built_in number))) after ≡ text_of (built_in number))
+    → (r ≡ Ok (wrote (length (text_of (built_in number))) 0 0)) × (take (length (text_of (built_in number))) after ≡ text_of (built_in number))
 built_in_written number n {out} call l = (gave_done call (in_range_lem number (length out) n) l, gave_bytes call (in_range_lem number (length out) n) l)

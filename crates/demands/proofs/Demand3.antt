@@ -7,7 +7,7 @@ use mathlib.Core.Path.{◌≡◌, sym, subst}
 use mathlib.Core.List.{List}
 use native.Mathlib.Omega.{arith}
 use Rattle.ground.proofs.Truths.{differ}
-use Rattle.answers.specs.Answer.{Answer, done}
+use Rattle.answers.specs.Answer.{Answer, wrote}
 use Rattle.answers.specs.Given.{Delivers}
 use Rattle.rule.specs.declared.way.Way.{Way}
 use Rattle.rule.specs.Stream.{Stream, fences}
@@ -27,7 +27,7 @@ full_way Way.Sparing e = differ (sym e)
 full_way Way.Full e = cc
 
 module _ (upstream target stream : List ℕ) {out : List ℕ} {written inserted state : ℕ} {after : List ℕ}
-    (call : Delivers (outcome (way_number Way.Full) upstream target stream) out (Ok (done written inserted state)) after) where
+    (call : Delivers (outcome (way_number Way.Full) upstream target stream) out (Ok (wrote written inserted state)) after) where
   -- The number of fences that a direct run in the full way returns is at most that of any placing of the target's fences that keeps every pair.
   pub no_one_with_fewer : {m : Models} → Opened (way_number Way.Full) upstream target m → (input : Stream) → StreamIn stream input
       → (other : Stream) → Placing (on m) input other → Keeps (up m) (on m) input other → inserted ≤ fences other

@@ -9,7 +9,7 @@ use lib.ListN.{length}
 use Rattle.ground.specs.Bytes.{at}
 use Rattle.ground.proofs.Truths.{differ}
 use Rattle.answers.specs.declared.Refusal.{Refusal}
-use Rattle.answers.specs.Answer.{Answer, done}
+use Rattle.answers.specs.Answer.{Answer, wrote}
 use Rattle.answers.specs.Answer.{Verdict}
 use Rattle.answers.specs.Given.{Given, gives, refuses, unless_refused, Delivers, Answers}
 use Rattle.operations.specs.Alphabet.{stride}
@@ -57,7 +57,7 @@ module _ {image text : List ℕ} (d : DrawnAs image text) where
   pub drawing_given : drawn image ≡ gives text 0 0
   unfolding drawn
   drawing_given =
-      ap (λ (v : Verdict). unless_refused v (gives (drawing_of (header_of image) (rows_of image)) 0 0)) d.accepted
+      ap (λ (v : Verdict). unless_refused v (λ _. gives (drawing_of (header_of image) (rows_of image)) 0 0)) d.accepted
       ∙ ap (λ (t : List ℕ). gives t 0 0) (sym d.text_is)
 
 -- the texts of the form are the drawings of images that read
@@ -73,7 +73,7 @@ pub given_drawing : {image text : List ℕ} {f s : ℕ} → ((k : ℕ) → at im
 unfolding drawn
 given_drawing {image} {text} {f} {s} small = by (verdict_of image) refl
   where
-    by : (v : Verdict) → verdict_of image ≡ v → unless_refused v (gives (drawing_of (header_of image) (rows_of image)) 0 0) ≡ gives text f s
+    by : (v : Verdict) → verdict_of image ≡ v → unless_refused v (λ _. gives (drawing_of (header_of image) (rows_of image)) 0 0) ≡ gives text f s
         → DrawnAs image text × (f ≡ 0) × (s ≡ 0)
     by (Err why) a e = differ (cc)
     by (Ok tt) a e =
@@ -101,7 +101,7 @@ image_given {image} {text} d u =
 -- what is withheld by a call that draws an image
 module _ (image : List ℕ) (room : ℕ) where
   abbrev given : Verdict → Given
-  given v = unless_refused v (gives (drawing_of (header_of image) (rows_of image)) 0 0)
+  given v = unless_refused v (λ _. gives (drawing_of (header_of image) (rows_of image)) 0 0)
 
   pub draw_told : {why : Refusal} → Withheld (drawn image) room why → DrawRefused image room why
   unfolding drawn
@@ -167,14 +167,14 @@ module _ {text out : List ℕ} {r : Answer} {after : List ℕ} (call : Answers (
 
 -- calls that were done
 pub drawing_done : (image : List ℕ) → ((k : ℕ) → at image k < 256) → {out : List ℕ} {written fences state : ℕ} {after : List ℕ}
-    → Delivers (drawn image) out (Ok (done written fences state)) after → DrawDone image out written fences state after
+    → Delivers (drawn image) out (Ok (wrote written fences state)) after → DrawDone image out written fences state after
 drawing_done image small call =
     let gave = done_gave call in
     let is = given_drawing small gave.is in
     record { drawn = is.0; no_fences = is.1; no_state = is.2; size = gave.size; fits = gave.fits; rest_kept = gave.rest }
 
 pub undrawing_done : (text : List ℕ) {out : List ℕ} {written fences state : ℕ} {after : List ℕ}
-    → Answers (Undrawn text) out (Ok (done written fences state)) after → UndrawDone text out written fences state after
+    → Answers (Undrawn text) out (Ok (wrote written fences state)) after → UndrawDone text out written fences state after
 undrawing_done text call =
     let gave = done_gave call.delivered in
     let is = given_image call.right gave.is in

@@ -15,8 +15,7 @@ use Rattle.machine.specs.Outcome.{Outcome}
 use Rattle.ground.specs.Bytes.{at}
 use Rattle.ground.proofs.Truths.{differ}
 use Rattle.answers.specs.declared.Refusal.{Refusal}
-use Rattle.answers.specs.Answer.{Verdict}
-use Rattle.answers.specs.declared.Answer as answers
+use Rattle.answers.specs.Answer.{wrote}
 use Rattle.answers.specs.Given.{Given, gives, refuses, GivenUnless, Answers}
 use Rattle.operations.specs.Alphabet.{access_letters}
 use Rattle.rule.specs.Sides.{upstream_of, target_of}
@@ -172,12 +171,11 @@ pub data GenerateIs (number : ℕ) (upstream target : List ℕ) : Given → Type
   opens : {m : Models} {g : Given} → Opened number upstream target m → MachineIs m g → GenerateIs number upstream target g
 
 pub generate_is : (number : ℕ) (upstream target : List ℕ) (g : Given) → ImageGiven number upstream target g → GenerateIs number upstream target g
-generate_is number upstream target g given = by (opened number upstream target).verdict refl given
+generate_is number upstream target g given = by (opened number upstream target) refl given
   where
-    by : (v : Verdict) → (opened number upstream target).verdict ≡ v → GivenUnless v (MachineGiven (opened number upstream target).models) g
-        → GenerateIs number upstream target g
+    by : (o : Opening) → opened number upstream target ≡ o → GivenOnOpened o MachineGiven g → GenerateIs number upstream target g
     by (Err why) e h = subst (GenerateIs number upstream target) (sym h) (unopened (opening_told number upstream target e))
-    by (Ok tt) e h =
+    by (Ok m) e h =
         let o = opens_told (shims.opens (way_of number) upstream target e) in
         opens o (machine_is o h)
 
@@ -198,7 +196,7 @@ module _ {m : Models} {first second : List ℕ} (a : MinimalImage m first) (b : 
 
 -- An accepted call has written the image.
 pub image_done : (number : ℕ) (upstream target : List ℕ) {out : List ℕ} {written fences state : ℕ} {after : List ℕ}
-    → Answers (ImageGiven number upstream target) out (Answer.Done written fences state) after
+    → Answers (ImageGiven number upstream target) out (Ok (wrote written fences state)) after
     → GenerateDone number upstream target out written fences state after
 image_done number upstream target {out} {written} {fences} {state} {after} call =
     by (generate_is number upstream target call.given call.right) gave.is

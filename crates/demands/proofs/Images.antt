@@ -43,7 +43,7 @@ module _ (image : List ℕ) where
   unfolding verdict_of
   verdict_told {why} = by (ltb limit (length image)) refl
     where
-      as_is : {v : Refusal} → ImageRefused image v → Err v ≡ Err why → ImageRefused image why
+      as_is : {v : Refusal} → ImageRefused image v → Path Verdict (Err v) (Err why) → ImageRefused image why
       as_is {v} h e =
           let same : v ≡ why = cc in
           subst (ImageRefused image) same h
@@ -86,7 +86,7 @@ module _ (image : List ℕ) (room : ℕ) where
   unfolding written_back
   back_told h = by (verdict_of image) refl h
     where
-      by : (v : Verdict) → verdict_of image ≡ v → {why : Refusal} → Withheld (unless_refused v (gives image 0 0)) room why
+      by : (v : Verdict) → verdict_of image ≡ v → {why : Refusal} → Withheld (unless_refused v (λ _. gives image 0 0)) room why
           → calls.ReadRefused image room why
       by (Err is) e {why} (refused h) =
           let same : is ≡ why = cc in
@@ -99,8 +99,8 @@ module _ (image : List ℕ) (room : ℕ) where
 
   pub told_back : {why : Refusal} → calls.ReadRefused image room why → Withheld (written_back image) room why
   unfolding written_back
-  told_back (calls.image_refused h) = refused (ap (λ (v : Verdict). unless_refused v (gives image 0 0)) (told_verdict image h))
-  told_back (calls.too_small a l) = exceeds (ap (λ (v : Verdict). unless_refused v (gives image 0 0)) a) l
+  told_back (calls.image_refused h) = refused (ap (λ (v : Verdict). unless_refused v (λ _. gives image 0 0)) (told_verdict image h))
+  told_back (calls.too_small a l) = exceeds (ap (λ (v : Verdict). unless_refused v (λ _. gives image 0 0)) a) l
 
 -- A run stops at a byte exactly when there is a fault with it in the state that the bytes before it lead to: so by induction on them.
 module _ (image : List ℕ) where
@@ -114,7 +114,7 @@ module _ (image : List ℕ) where
   unfolding step_at
   stop_fault why b s = by (byte_is b) refl
     where
-      as_is : (is : Stop) → FaultOf is b s → Err is ≡ Err why → FaultOf why b s
+      as_is : (is : Stop) → FaultOf is b s → Path Step (Err is) (Err why) → FaultOf why b s
       as_is is h e =
           let same : is ≡ why = cc in
           subst (λ (x : Stop). FaultOf x b s) same h

@@ -6,7 +6,7 @@ use mathlib.Core.Path.{sym, ap, subst, ◌∙◌}
 use mathlib.Core.List.{List}
 use lib.ListN.{take}
 use Rattle.rule.specs.declared.way.Way.{Way}
-use Rattle.answers.specs.Answer.{Answer, done}
+use Rattle.answers.specs.Answer.{Answer, wrote}
 use Rattle.answers.specs.Given.{Answers}
 use Rattle.rule.specs.Rule.{way_number}
 use Rattle.shims.specs.declared.Models.{Models}
@@ -22,7 +22,7 @@ use Rattle.demands.proofs.Delivered.{Gave, done_gave}
 use Rattle.demands.proofs.Opening.{opens_told}
 
 pub listing_done : (input : List ℕ) {out : List ℕ} {written fences state : ℕ} {after : List ℕ}
-    → Answers (Listed input) out (Ok (done written fences state)) after → ListDone input out written fences state after
+    → Answers (Listed input) out (Ok (wrote written fences state)) after → ListDone input out written fences state after
 listing_done input {out} {written} {fences} {state} {after} call =
     let gave : Gave call.given out written fences state after = done_gave call.delivered in
     let a : AcceptedInput input (take written after) fences state

@@ -127,7 +127,7 @@ module _ {input : List ℕ} {room : ℕ} where
   parts_told : {p : Parts} → ListShaped input p → {g : Given} → PartsListed p g → {why : Refusal} → Withheld g room why
       → ListRefused input room why
   parts_told {p} s {g} h {why} w =
-      by call.verdict refl (subst (λ (r : Option Way). Right (opened_by r p.upstream p.target)) (sym (read_written p.way)) h)
+      by call refl (subst (λ (r : Option Way). Right (opened_by r p.upstream p.target)) (sym (read_written p.way)) h)
     where
       Right : Opening → Type 0
       Right x = GivenOnOpened x (λ (m : Models). ModelsListed m p.stream) g
@@ -135,9 +135,9 @@ module _ {input : List ℕ} {room : ℕ} where
       call : Opening
       call = opened (way_number p.way) p.upstream p.target
 
-      by : (v : Verdict) → call.verdict ≡ v → GivenUnless v (λ (x : Given). ModelsListed call.models p.stream x) g → ListRefused input room why
+      by : (o : Opening) → call ≡ o → Right o → ListRefused input room why
       by (Err is) v x = as_told (opening s (opening_told (way_number p.way) p.upstream p.target v)) x w
-      by (Ok tt) v x =
+      by (Ok m) v x =
           models_told (record { shape_is = s; opened = opens_told (opens (way_of (way_number p.way)) p.upstream p.target v) }) x w
 
   shape_told : length input ≤ 32768 → {q : Option Parts} → shape input ≡ q → {g : Given} → ShapeListed q g → {why : Refusal} → Withheld g room why

@@ -11,8 +11,8 @@ use lib.ListN.{length}
 use Rattle.comparison.specs.Comparison.{Compared}
 use Rattle.ground.proofs.Truths.{differ}
 use Rattle.answers.specs.declared.Refusal.{Refusal}
-use Rattle.answers.specs.Answer.{Verdict}
 use Rattle.answers.specs.Given.{Given, gives, refuses}
+use Rattle.models.specs.declared.model.Model.{Model}
 use Rattle.models.specs.Told.{Reading}
 use Rattle.models.specs.Reading.{reading}
 use Rattle.models.specs.Text.{text_of}
@@ -28,17 +28,17 @@ use Rattle.demands.proofs.Delivered.{Withheld, refused, exceeds, refused_as}
 use Rattle.demands.proofs.Opening.{told_refused, told_accepted}
 
 -- what is given of a text whose reading is told
-pub told_given : {text : List ℕ} {r : Reading} → Told text r → back_given text ≡ text_given r.verdict text
-told_given {text} t = ap (λ (x : Reading). text_given x.verdict text) (sym (told_is t))
+pub told_given : {text : List ℕ} {r : Reading} → Told text r → back_given text ≡ text_given r text
+told_given {text} t = ap (λ (x : Reading). text_given x text) (sym (told_is t))
 
 module _ (text : List ℕ) (room : ℕ) where
   pub model_told : {why : Refusal} → Withheld (back_given text) room why → ModelRefused text room why
-  model_told h = by (reading text).verdict refl h
+  model_told h = by (reading text) refl h
     where
-      by : (v : Verdict) → (reading text).verdict ≡ v → {why : Refusal} → Withheld (text_given v text) room why → ModelRefused text room why
+      by : (v : Reading) → reading text ≡ v → {why : Refusal} → Withheld (text_given v text) room why → ModelRefused text room why
       by (Err is) e w = subst (ModelRefused text room) (refused_as refl w) (text_refused (told_refused text e))
-      by (Ok tt) e (refused h) = differ (cc)
-      by (Ok tt) e (exceeds {bytes = bytes} h l) =
+      by (Ok m) e (refused h) = differ (cc)
+      by (Ok m) e (exceeds {bytes = bytes} h l) =
           let same : text ≡ bytes = cc in
           calls.too_small (told_accepted text e) (omega (arith, l, ap length same))
 
@@ -77,25 +77,23 @@ module _ (number room : ℕ) where
 -- Two texts compare as 01 says.
 pub compared_told : (first second : List ℕ) → TextsCompare first second (comparing first second)
 unfolding comparing
-compared_told first second = by (reading first).verdict refl
+compared_told first second = by (reading first) refl
   where
-    both : Told first (accepting (reading first).model) → (v : Verdict) → (reading second).verdict ≡ v
-        → TextsCompare first second (compared_both (reading first).model.ppo v (reading second).model.ppo)
+    both : {a : Model} → Told first (accepting a) → (r : Reading) → reading second ≡ r → TextsCompare first second (compared_both a.ppo r)
     both a (Err why) e = second_refused a (told_refused second e)
-    both a (Ok tt) e = calls.compares a (told_accepted second e) (compares _ _)
+    both a (Ok m) e = calls.compares a (told_accepted second e) (compares _ _)
 
-    by : (v : Verdict) → (reading first).verdict ≡ v
-        → TextsCompare first second (compared_first v (reading first).model.ppo (reading second))
+    by : (r : Reading) → reading first ≡ r → TextsCompare first second (compared_first r (reading second))
     by (Err why) e = first_refused (told_refused first e)
-    by (Ok tt) e = both (told_accepted first e) (reading second).verdict refl
+    by (Ok m) e = both (told_accepted first e) (reading second) refl
 
 pub told_compared : (first second : List ℕ) {c : Compared} → TextsCompare first second c → comparing first second ≡ c
 unfolding comparing
-told_compared first second (first_refused t) = ap (λ (r : Reading). compared_first r.verdict r.model.ppo (reading second)) (sym (told_is t))
+told_compared first second (first_refused t) = ap (λ (r : Reading). compared_first r (reading second)) (sym (told_is t))
 told_compared first second (second_refused {a = a} t u) =
-    ap (λ (r : Reading). compared_first r.verdict r.model.ppo (reading second)) (sym (told_is t))
-    ∙ ap (λ (r : Reading). compared_both a.ppo r.verdict r.model.ppo) (sym (told_is u))
+    ap (λ (r : Reading). compared_first r (reading second)) (sym (told_is t))
+    ∙ ap (compared_both a.ppo) (sym (told_is u))
 told_compared first second (calls.compares {a = a} t u c) =
-    ap (λ (r : Reading). compared_first r.verdict r.model.ppo (reading second)) (sym (told_is t))
-    ∙ ap (λ (r : Reading). compared_both a.ppo r.verdict r.model.ppo) (sym (told_is u))
+    ap (λ (r : Reading). compared_first r (reading second)) (sym (told_is t))
+    ∙ ap (compared_both a.ppo) (sym (told_is u))
     ∙ ap Ok (sym (compares_is c))

@@ -9,18 +9,17 @@ use borrow.Author.Tests.{eqb-true}
 use lib.Dec.{eqb}
 use Rattle.ground.proofs.Truths.{differ}
 use Rattle.answers.specs.declared.Refusal.{Refusal}
-use Rattle.answers.specs.Answer.{Verdict}
 use Rattle.rule.specs.declared.way.Way.{Way}
 use Rattle.rule.specs.Rule.{way_number}
 use Rattle.models.specs.declared.model.Model.{Model}
 use Rattle.models.specs.Told.{Reading}
 use Rattle.models.specs.Reading.{reading}
-use Rattle.models.specs.Told.{Told, nothing, accepting, refusing, over, departs, repeated, accepted}
+use Rattle.models.specs.Told.{Told, accepting, refusing}
 use Rattle.models.proofs.Words.{told, told_is}
 use Rattle.shims.specs.declared.Models.{Models}
 use Rattle.shims.specs.Opening.{Opening}
 use Rattle.shims.specs.Opening as shims
-use Rattle.shims.specs.Opening.{way_of, on_verdict, on_reading, on_target, opened_by, opened, Opens}
+use Rattle.shims.specs.Opening.{way_of, on_reading, on_target, opened_by, opened, Opens}
 use Rattle.shims.proofs.Theorems.{read_written, opens_so}
 use Rattle.demands.specs.Opened.{Opened, OpeningRefused, no_way, upstream_refused, target_refused}
 
@@ -61,44 +60,36 @@ module _ {number : ℕ} {upstream target : List ℕ} where
 
   -- and with no others
   pub opened_one : {m m' : Models} → Opened number upstream target m → Opened number upstream target m' → m ≡ m'
-  opened_one p q = ap (λ (o : Opening). o.models) (sym (opens_so (told_opens p)) ∙ opens_so (told_opens q))
+  opened_one {m} {m'} p q = let e : Path Opening (shims.opening m) (shims.opening m') = sym (opens_so (told_opens p)) ∙ opens_so (told_opens q) in cc
 
--- a text whose reading is refused holds nothing
-refused_reading : {t : List ℕ} {r : Reading} {why : Refusal} → Told t r → r.verdict ≡ Err why → r ≡ refusing why
-refused_reading (over l) e = ap (λ (v : Verdict). record { verdict = v; model = nothing }) e
-refused_reading (departs l n h) e = ap (λ (v : Verdict). record { verdict = v; model = nothing }) e
-refused_reading (repeated d k l f t s) e = ap (λ (v : Verdict). record { verdict = v; model = nothing }) e
-refused_reading (accepted d l f t s) e = differ (cc)
+-- what is read of a text is what 01 tells of it
+pub told_refused : (t : List ℕ) {why : Refusal} → reading t ≡ refusing why → Told t (refusing why)
+told_refused t e = subst (Told t) e (told t)
 
-pub told_refused : (t : List ℕ) {why : Refusal} → (reading t).verdict ≡ Err why → Told t (refusing why)
-told_refused t e = subst (Told t) (refused_reading (told t) e) (told t)
-
-pub told_accepted : (t : List ℕ) → (reading t).verdict ≡ (Ok tt) → Told t (accepting (reading t).model)
-told_accepted t e = subst (Told t) (ap (λ (v : Verdict). record { verdict = v; model = (reading t).model }) e) (told t)
+pub told_accepted : (t : List ℕ) {m : Model} → reading t ≡ accepting m → Told t (accepting m)
+told_accepted t e = subst (Told t) e (told t)
 
 -- an opening that is refused is refused by the first of its three that is
-pub opening_told : (number : ℕ) (upstream target : List ℕ) {why : Refusal} → (opened number upstream target).verdict ≡ Err why
+pub opening_told : (number : ℕ) (upstream target : List ℕ) {why : Refusal} → opened number upstream target ≡ shims.refusing why
     → OpeningRefused number upstream target why
 opening_told number upstream target {why} e = by_way (way_of number) refl e
   where
-    by_target : (way : Way) → number ≡ way_number way → Told upstream (accepting (reading upstream).model)
-        → (v : Verdict) → (reading target).verdict ≡ v
-        → (on_verdict v (shims.opening (record { way = way; upstream = (reading upstream).model; target = (reading target).model }))
-        ).verdict ≡ Err why
+    by_target : (way : Way) → number ≡ way_number way → {u : Model} → Told upstream (accepting u) → (r : Reading) → reading target ≡ r
+        → on_reading r (λ (t : Model). shims.opening (record { way = way; upstream = u; target = t })) ≡ shims.refusing why
         → OpeningRefused number upstream target why
-    by_target way w u (Ok tt) t z = differ (cc)
-    by_target way w u (Err is) t z =
+    by_target way w u (Ok t) e z = differ (cc)
+    by_target way w u (Err is) e z =
         let same : is ≡ why = cc in
-        subst (OpeningRefused number upstream target) same (target_refused way w u (told_refused target t))
+        subst (OpeningRefused number upstream target) same (target_refused way w u (told_refused target e))
 
-    by_upstream : (way : Way) → number ≡ way_number way → (v : Verdict) → (reading upstream).verdict ≡ v
-        → (on_verdict v (on_target way (reading upstream).model target)).verdict ≡ Err why → OpeningRefused number upstream target why
-    by_upstream way w (Ok tt) u z = by_target way w (told_accepted upstream u) (reading target).verdict refl z
-    by_upstream way w (Err is) u z =
+    by_upstream : (way : Way) → number ≡ way_number way → (r : Reading) → reading upstream ≡ r
+        → on_reading r (λ (m : Model). on_target way m target) ≡ shims.refusing why → OpeningRefused number upstream target why
+    by_upstream way w (Ok u) e z = by_target way w (told_accepted upstream e) (reading target) refl z
+    by_upstream way w (Err is) e z =
         let same : is ≡ why = cc in
-        subst (OpeningRefused number upstream target) same (upstream_refused way w (told_refused upstream u))
+        subst (OpeningRefused number upstream target) same (upstream_refused way w (told_refused upstream e))
 
-    by_way : (read : Option Way) → way_of number ≡ read → (opened_by read upstream target).verdict ≡ Err why
+    by_way : (read : Option Way) → way_of number ≡ read → opened_by read upstream target ≡ shims.refusing why
         → OpeningRefused number upstream target why
     by_way None r z =
         let same : Refusal.OutOfRange ≡ why = cc in
@@ -106,7 +97,7 @@ opening_told number upstream target {why} e = by_way (way_of number) refl e
         (no_way (λ way h.
         let n : None ≡ Some way = sym r ∙ named_way h in
         differ (cc)))
-    by_way (Some way) r z = by_upstream way (way_named number way r) (reading upstream).verdict refl z
+    by_way (Some way) r z = by_upstream way (way_named number way r) (reading upstream) refl z
 
 -- and the other way round
 pub told_opening : {number : ℕ} {upstream target : List ℕ} {why : Refusal} → OpeningRefused number upstream target why

@@ -34,7 +34,7 @@ pub reads_first : (b : ℕ) (bytes : List ℕ) (op : Operation) (s : Stream) →
 reads_first b bytes op s e = ((cc), (cc))
 
 pub reads_on : (b : ℕ) (bytes : List ℕ) (op : Operation) (s : Stream) → byte_is b ≡ Some op → StreamIn bytes s → StreamIn (b ∷ bytes) (op ∷ s)
-reads_on b bytes op s e h = ap₂ (λ (x : Option Operation) (l : List Option Operation). x ∷ l) e h
+reads_on b bytes op s e h = ap₂ (λ (x : Option Operation) (l : List (Option Operation)). x ∷ l) e h
 
 -- Bytes that read as operations of the model, and then any others: the operations are these and then those of the others, and the fault is theirs.
 pub read_then : (n at : ℕ) (bytes : List ℕ) (s : Stream) (rest : List ℕ) → StreamIn bytes s → Below n s

@@ -9,8 +9,7 @@ use borrow.Author.Tests.{ltb-true, ltb-false, lt-ltb, le-ltb}
 use lib.Dec.{ltb}
 use lib.ListN.{length}
 use Rattle.answers.specs.declared.Refusal.{Refusal}
-use Rattle.answers.specs.Answer.{Verdict}
-use Rattle.answers.specs.Given.{Given, refuses, unless_refused}
+use Rattle.answers.specs.Given.{Given, refuses}
 use Rattle.shims.specs.declared.Models.{Models}
 use Rattle.shims.specs.Opening.{Opening}
 use Rattle.shims.specs.Opening.{way_of, opened, on_opened}
@@ -32,19 +31,19 @@ module _ (number : ℕ) (upstream target stream : List ℕ) where
   call = opened number upstream target
 
   pub run_is : RunIs number upstream target stream (outcome number upstream target stream)
-  run_is = by call.verdict refl
+  run_is = by call refl
     where
-      directly : Given
-      directly = direct call.models.way (up call.models) (on call.models) stream
+      directly : Models → Given
+      directly m = direct m.way (up m) (on m) stream
 
-      by_length : Opened number upstream target call.models → (b : Bool) → ltb 4096 (length stream) ≡ b
-          → RunIs number upstream target stream (cond b (refuses Refusal.OverLimit) directly)
-      by_length o true e = over o (ltb-true 4096 (length stream) e)
-      by_length o false e = runs o (ltb-false 4096 (length stream) e) (direct_is call.models stream)
+      by_length : (m : Models) → Opened number upstream target m → (b : Bool) → ltb 4096 (length stream) ≡ b
+          → RunIs number upstream target stream (cond b (refuses Refusal.OverLimit) (directly m))
+      by_length m o true e = over o (ltb-true 4096 (length stream) e)
+      by_length m o false e = runs o (ltb-false 4096 (length stream) e) (direct_is m stream)
 
-      by : (v : Verdict) → call.verdict ≡ v → RunIs number upstream target stream (unless_refused v (run_given call.models stream))
+      by : (o : Opening) → call ≡ o → RunIs number upstream target stream (on_opened o λ (m : Models). run_given m stream)
       by (Err why) e = unopened (opening_told number upstream target e)
-      by (Ok tt) e = by_length (opens_told (opens (way_of number) upstream target e)) (ltb 4096 (length stream)) refl
+      by (Ok m) e = by_length m (opens_told (opens (way_of number) upstream target e)) (ltb 4096 (length stream)) refl
 
   pub is_run_lem : {g : Given} → RunIs number upstream target stream g → outcome number upstream target stream ≡ g
   is_run_lem (unopened o) = ap (λ (x : Opening). on_opened x λ (m : Models). run_given m stream) (told_opening o)

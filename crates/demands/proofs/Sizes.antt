@@ -20,7 +20,7 @@ use Rattle.rule.specs.Pairs.{every}
 use Rattle.models.specs.Told.{Reading}
 use Rattle.models.specs.Reading.{table_in, reading}
 use Rattle.models.specs.Told.{Told, held, accepting, refusing, over, departs, repeated, accepted}
-use Rattle.models.proofs.Words.{told}
+use Rattle.models.proofs.Words.{told, accepted_told}
 use Rattle.models.specs.Model.{Description}
 use Rattle.models.specs.Text.{text_of}
 use Rattle.tables.specs.Table.{table}
@@ -30,7 +30,8 @@ use Rattle.built_ins.specs.BuiltIns.{four_rows, under, none, model, built_ins, b
 use Rattle.rule.specs.Rule.{way_number}
 use Rattle.shims.specs.declared.Models.{Models}
 use Rattle.shims.specs.Opening.{Opening}
-use Rattle.shims.specs.Opening.{opened_by}
+use Rattle.shims.specs.Opening as shims
+use Rattle.shims.specs.Opening.{opened_by, GivenOnOpened}
 use Rattle.shims.proofs.Theorems.{read_written}
 use Rattle.runs.specs.Bytes.{direct}
 use Rattle.runs.specs.Call.{run_given, outcome}
@@ -70,7 +71,7 @@ use Rattle.demands.proofs.Threads.{gives_walk}
 
 -- no opening is refused with 7
 
-told_not_7 : {t : List ℕ} {r : Reading} → Told t r → r.verdict ≡ Err Refusal.BufferTooSmall → ⊥
+told_not_7 : {t : List ℕ} {r : Reading} → Told t r → r ≡ refusing Refusal.BufferTooSmall → ⊥
 told_not_7 (over l) e = differ (cc)
 told_not_7 (departs l n h) e = differ (cc)
 told_not_7 (repeated d k l f t s) e = differ (cc)
@@ -188,13 +189,13 @@ unfolding written_back
 image_back_out image call =
     never_too_small call.delivered image_out (λ e. none (verdict_of image) refl e) (λ bytes f s e. short (verdict_of image) refl e)
   where
-    none : (v : Verdict) → verdict_of image ≡ v → unless_refused v (gives image 0 0) ≡ refuses Refusal.BufferTooSmall → ⊥
+    none : (v : Verdict) → verdict_of image ≡ v → unless_refused v (λ _. gives image 0 0) ≡ refuses Refusal.BufferTooSmall → ⊥
     none (Err why) a e =
         let seven : why ≡ Refusal.BufferTooSmall = cc in
         verdict_not_7 image (a ∙ ap Err seven)
     none (Ok tt) a e = differ (cc)
 
-    short : (v : Verdict) → verdict_of image ≡ v → {bytes : List ℕ} {f s : ℕ} → unless_refused v (gives image 0 0) ≡ gives bytes f s
+    short : (v : Verdict) → verdict_of image ≡ v → {bytes : List ℕ} {f s : ℕ} → unless_refused v (λ _. gives image 0 0) ≡ gives bytes f s
         → length bytes ≤ image_out
     short (Err why) a e = differ (cc)
     short (Ok tt) a {bytes = bytes} e =
@@ -221,7 +222,7 @@ draw_out image small call =
     never_too_small call drawing_out (λ e. none (verdict_of image) refl e) (λ bytes f s e. drawn_short (given_drawing small e).0)
   where
     none : (v : Verdict) → verdict_of image ≡ v
-        → unless_refused v (gives (drawing_of (header_of image) (rows_of image)) 0 0) ≡ refuses Refusal.BufferTooSmall → ⊥
+        → unless_refused v (λ _. gives (drawing_of (header_of image) (rows_of image)) 0 0) ≡ refuses Refusal.BufferTooSmall → ⊥
     none (Err why) a e =
         let seven : why ≡ Refusal.BufferTooSmall = cc in
         verdict_not_7 image (a ∙ ap Err seven)
@@ -267,21 +268,19 @@ run_not_7 {m} {stream} (parts.halts {why = why} r) e =
 run_not_7 (parts.runs r h) e = machine_not_7 h e
 
 parts_not_7 : (p : Parts) (g : Given) → PartsListed p g → g ≡ refuses Refusal.BufferTooSmall → ⊥
-parts_not_7 p g = by opening.verdict refl
+parts_not_7 p g = by opening refl
   where
     opening : Opening
     opening = opened_by (Some p.way) p.upstream p.target
 
-    by_way : {r : Option Way} → r ≡ Some p.way → {why : Refusal} → opening.verdict ≡ Err why
-        → (opened_by r p.upstream p.target).verdict ≡ Err why
-    by_way w e = ap (λ (r : Option Way). (opened_by r p.upstream p.target).verdict) w ∙ e
+    by_way : {r : Option Way} → r ≡ Some p.way → {why : Refusal} → opening ≡ shims.refusing why → opened_by r p.upstream p.target ≡ shims.refusing why
+    by_way w e = ap (λ (r : Option Way). opened_by r p.upstream p.target) w ∙ e
 
-    by : (v : Verdict) → opening.verdict ≡ v → GivenUnless v (λ (x : Given). ModelsListed opening.models p.stream x) g
-        → g ≡ refuses Refusal.BufferTooSmall → ⊥
+    by : (o : Opening) → opening ≡ o → GivenOnOpened o (λ (m : Models). ModelsListed m p.stream) g → g ≡ refuses Refusal.BufferTooSmall → ⊥
     by (Err why) o h e =
         let seven : why ≡ Refusal.BufferTooSmall = cc in
         opening_not_7 (opening_told (way_number p.way) p.upstream p.target (by_way (read_written p.way) o)) seven
-    by (Ok tt) o h e = run_not_7 h e
+    by (Ok m) o h e = run_not_7 h e
 
 shape_not_7 : {o : Option Parts} {g : Given} → ShapeListed o g → g ≡ refuses Refusal.BufferTooSmall → ⊥
 shape_not_7 listed.shapeless e = differ (cc)
@@ -300,26 +299,21 @@ list_out_lem input call = never_too_small call.delivered list_out (λ e. listed_
 -- SHIM_TEXT_OUT: 739 for a model's text that is read and written back,
 pub text_out_lem : (text : List ℕ) {out : List ℕ} {r : Answer} {after : List ℕ} → Delivers (back_given text) out r after → text_out ≤ length out
     → r ≡ Err Refusal.BufferTooSmall → ⊥
-text_out_lem text call = never_too_small call text_out (λ e. none (reading text).verdict refl e) (λ bytes f s e. short (reading text).verdict refl e)
+text_out_lem text call = never_too_small call text_out (λ e. none (reading text) refl e) (λ bytes f s e. short (reading text) refl e)
   where
-    none : (v : Verdict) → (reading text).verdict ≡ v → unless_refused v (gives text 0 0) ≡ refuses Refusal.BufferTooSmall → ⊥
+    none : (r : Reading) → reading text ≡ r → unless_refused r (λ _. gives text 0 0) ≡ refuses Refusal.BufferTooSmall → ⊥
     none (Err why) a e =
         let seven : why ≡ Refusal.BufferTooSmall = cc in
         told_not_7 (told text) (a ∙ ap Err seven)
-    none (Ok tt) a e = differ (cc)
+    none (Ok m) a e = differ (cc)
 
-    by_told : {r : Reading} → Told text r → r.verdict ≡ (Ok tt) → length text ≤ text_out
-    by_told (over l) e = differ (cc)
-    by_told (departs l n h) e = differ (cc)
-    by_told (repeated d k l f t s) e = differ (cc)
-    by_told (accepted d l f t s) e = omega (arith, text_short d f, ap length t)
-
-    short : (v : Verdict) → (reading text).verdict ≡ v → {bytes : List ℕ} {f s : ℕ} → unless_refused v (gives text 0 0) ≡ gives bytes f s
+    short : (r : Reading) → reading text ≡ r → {bytes : List ℕ} {f s : ℕ} → unless_refused r (λ _. gives text 0 0) ≡ gives bytes f s
         → length bytes ≤ text_out
     short (Err why) a e = differ (cc)
-    short (Ok tt) a {bytes = bytes} e =
+    short (Ok m) a {bytes = bytes} e =
         let same : text ≡ bytes = cc in
-        omega (arith, by_told (told text) a, ap length same)
+        let d = accepted_told (told text) a in
+        omega (arith, text_short d.0 d.1, ap length d.2, ap length same)
 
 -- and for a built-in model's: one computed test over all of them.
 all_short : every (λ (d : Description). leb (length (text_of d)) text_out) built_ins ≡ true
@@ -346,7 +340,7 @@ unfolding built_in_reading
 builtin_out number call = never_too_small call text_out (no_7 (ltb 15 number)) (λ bytes f s e. short (ltb 15 number) e)
   where
     given : Bool → Given
-    given b = text_given (cond b (refusing Refusal.OutOfRange) (accepting (held (built_in number)))).verdict (text_of (built_in number))
+    given b = text_given (cond b (refusing Refusal.OutOfRange) (accepting (held (built_in number)))) (text_of (built_in number))
 
     no_7 : (b : Bool) → given b ≡ refuses Refusal.BufferTooSmall → ⊥
     no_7 true e = differ (cc)

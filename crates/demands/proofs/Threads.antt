@@ -13,7 +13,7 @@ use lib.Dec.{leb}
 use lib.ListN.{length}
 use Rattle.ground.proofs.Truths.{differ}
 use Rattle.answers.specs.declared.Refusal.{Refusal}
-use Rattle.answers.specs.Answer.{Answer, done}
+use Rattle.answers.specs.Answer.{Answer, wrote}
 use Rattle.answers.specs.Answer.{Verdict}
 use Rattle.answers.specs.Buffer.{answer_with}
 use Rattle.answers.specs.Given.{Given, gives, refuses, answer_of, buffer_of, Delivers}
@@ -107,8 +107,8 @@ unfolding answer_with
 answer_in t room (refuses why) = refl
 answer_in t room (gives bytes n s) = by (leb (length bytes) room)
   where
-    by : (b : Bool) → cond b (Ok (done (length bytes) n t)) (Err Refusal.BufferTooSmall)
-        ≡ ending_in t (cond b (Ok (done (length bytes) n s)) (Err Refusal.BufferTooSmall))
+    by : (b : Bool) → cond b (Ok (wrote (length bytes) n t)) (Err Refusal.BufferTooSmall)
+        ≡ ending_in t (cond b (Ok (wrote (length bytes) n s)) (Err Refusal.BufferTooSmall))
     by true = refl
     by false = refl
 
@@ -159,7 +159,7 @@ reads_append (b ∷ x) y [] t p q = differ (cc)
 reads_append (b ∷ x) y (op ∷ s) t p q =
     let first : byte_is b ≡ Some op = cc in
     let rest : StreamIn x s = cc in
-    ap₂ (λ (c : Option Operation) (l : List Option Operation). c ∷ l) first (reads_append x y s t rest q)
+    ap₂ (λ (c : Option Operation) (l : List (Option Operation)). c ∷ l) first (reads_append x y s t rest q)
 
 below_append : (n : ℕ) (s t : Stream) → Below n s → Below n t → Below n (s ++ t)
 below_append n [] t p q = q

@@ -2,7 +2,7 @@
 -- (include/shim.h). A promise is that of the call below.
 use Rattle.std.specs.Prelude.{ℕ, ◌≡◌, List, [], ◌∷◌, Ok, Err}
 use Rattle.answers.specs.declared.Refusal.{Refusal}
-use Rattle.answers.specs.Answer.{Answer, done}
+use Rattle.answers.specs.Answer.{Answer, wrote}
 use Rattle.answers.specs.Answer.{number_of, place_of}
 
 -- 0 was returned: the call is done, and its promise is kept by these numbers
@@ -11,7 +11,7 @@ pub record TellsDone (Promise : Answer → List ℕ → Type 0) (numbers after :
   pub fences : ℕ
   pub state : ℕ
   pub told : numbers ≡ 0 ∷ 0 ∷ written ∷ fences ∷ state ∷ []
-  pub promised : Promise (Ok (done written fences state)) after
+  pub promised : Promise (Ok (wrote written fences state)) after
 
 -- another number was returned: the call is refused, with that number and its place, and zeros
 pub record TellsRefused (Promise : Answer → List ℕ → Type 0) (number : ℕ) (numbers after : List ℕ) : Type 0 where

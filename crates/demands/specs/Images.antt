@@ -1,9 +1,9 @@
 -- A machine as the bytes of its image tell it, and a thread that is passed through it block by block. Document 01, "The machine image": "for l, L,
 -- s, S a fence byte (a number, FF none, FE refused) with the next state (0 where refused), then sixteen next states for upstream fences".
-use Rattle.std.specs.Prelude.{ℕ, ◌+◌, ◌-◌, ◌*◌, ◌<◌, ◌≡◌, cond, List, [], ◌++◌, map, ltb, eqb, length, take, Ok}
+use Rattle.std.specs.Prelude.{ℕ, ◌+◌, ◌-◌, ◌*◌, ◌<◌, ◌≡◌, cond, List, [], ◌++◌, map, ltb, eqb, length, take, Ok, Err}
 use Rattle.ground.specs.Bytes.{at}
-use Rattle.answers.specs.declared.Answer as answers
-use Rattle.answers.specs.Answer.{Verdict}
+use Rattle.answers.specs.Answer as answers
+use Rattle.answers.specs.Answer.{Verdict, wrote}
 use Rattle.answers.specs.Buffer.{buffer_with, answer_with}
 use Rattle.answers.specs.Given.{refuses, Delivers}
 use Rattle.operations.specs.Operation.{fence_bytes}
@@ -60,7 +60,7 @@ SameFuture m v out w out' = (x : Stream) → Own (up m) x → onward m.way (up m
 pub data Thread (image : List ℕ) : ℕ → List ℕ → List ℕ → ℕ → Type 0 where
   fresh : Thread image 0 [] [] 0
   block : {state next inserted written fences : ℕ} {given put out after : List ℕ} → Thread image state given put inserted
-      → (bytes : List ℕ) → Delivers (run_over image state bytes) out (Answer.Done written fences next) after
+      → (bytes : List ℕ) → Delivers (run_over image state bytes) out (Ok (wrote written fences next)) after
       → Thread image next (given ++ bytes) (put ++ take written after) (inserted + fences)
 
 -- what a thread has done: one run of the rule over all of it
@@ -81,9 +81,9 @@ pub data AsOneStream (m : Models) (image given put bytes out : List ℕ) : answe
   goes_on : (rest : List ℕ) (next : ℕ) → direct m.way (up m) (on m) (given ++ bytes) ≡ puts (put ++ rest) → next < states_of image
       → AsOneStream m image given put bytes out (answer_with rest (fence_bytes rest) next (length out)) (buffer_with rest out)
   stops : (why : Stop) (place : ℕ) → direct m.way (up m) (on m) (given ++ bytes) ≡ refuses (refusal_of why (length given + place))
-      → AsOneStream m image given put bytes out (answers.Answer.Refused (refusal_of why place)) out
+      → AsOneStream m image given put bytes out (Err (refusal_of why place)) out
 
 -- the same answer but for the end state, which a direct run does not tell
 abbrev pub ending_in : ℕ → answers.Answer → answers.Answer
-ending_in state (Answer.Done written fences other) = Answer.Done written fences state
-ending_in state (answers.Answer.Refused why) = answers.Answer.Refused why
+ending_in state (Ok d) = Ok (wrote d.written d.fences state)
+ending_in state (Err why) = Err why

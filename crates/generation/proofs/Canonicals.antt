@@ -20,7 +20,7 @@ use Rattle.rule.specs.Situation.{asks}
 use Rattle.models.specs.declared.model.Model.{Model}
 use Rattle.models.specs.Reading.{reading}
 use Rattle.models.specs.Told.{accepting}
-use Rattle.models.proofs.Words.{told, model_told}
+use Rattle.models.proofs.Words.{told, accepted_told}
 use Rattle.texts.proofs.NamePart.{each_at}
 use Rattle.texts.specs.NamePart.{NameFormed}
 use Rattle.shims.specs.declared.Models.{Models}
@@ -43,8 +43,8 @@ name_field n f =
 -- the name of a model that was read fills a field
 pub name_read : (text : List ℕ) {m : Model} → reading text ≡ accepting m → NameField m.name.bytes
 name_read text e =
-    let d = model_told (told text) e in
-    subst (λ (x : Model). NameField x.name.bytes) d.2 (name_field d.0.name d.1.name)
+    let d = accepted_told (told text) e in
+    subst (λ (x : Model). NameField x.name.bytes) d.3 (name_field d.0.name d.1.name)
 
 way_bit : (way : Way) → way_number way ≤ 1
 way_bit Way.Sparing = omega arith

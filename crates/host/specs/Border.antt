@@ -2,7 +2,7 @@
 -- number is the first of the five numbers of an answer, and is returned too; 0 is success.
 use Rattle.std.specs.Prelude.{ℕ, ◌≡◌, List, Ok, Err}
 use Rattle.comparison.specs.Comparison.{Compared}
-use Rattle.answers.specs.Answer.{Answer, done}
+use Rattle.answers.specs.Answer.{Answer, wrote}
 use Rattle.answers.specs.Answer.{number_of, numbers_of}
 use Rattle.comparison.specs.Comparison as Comparison
 
@@ -12,7 +12,7 @@ number_in (Err why) = number_of why
 
 -- a comparison as an answer, and as its relation: 0 equal, 1 first stronger, 2 second stronger, 3 neither; 0 where refused
 abbrev pub compared_as : Compared → Answer
-compared_as (Ok is) = Ok (done 0 0 0)
+compared_as (Ok is) = Ok (wrote 0 0 0)
 compared_as (Err why) = Err why
 
 abbrev pub relation_of : Compared → ℕ

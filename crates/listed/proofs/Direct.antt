@@ -13,7 +13,7 @@ use lib.Seq.{take-append_seam}
 use Rattle.ground.proofs.Truths.{differ}
 use Rattle.answers.specs.declared.Refusal.{Refusal}
 use Rattle.answers.specs.declared.Done.{Done}
-use Rattle.answers.specs.Answer.{Answer, done}
+use Rattle.answers.specs.Answer.{Answer, wrote}
 use Rattle.answers.specs.Given.{Given, gives, refuses, answer_of, buffer_of, Delivers}
 use Rattle.answers.proofs.Laws.{buffer_fits, answer_fits}
 use Rattle.rule.specs.Pairs.{Model}
@@ -67,7 +67,7 @@ module _ (m : Models) (stream buffer : List ℕ) (size : length buffer ≡ 8192)
     where
       by : (x : Given) → Short x → Err why ≡ answer_of x (length buffer) → x ≡ refuses why
       by (gives bytes f s) h e =
-          let z : Err why ≡ Ok (done (length bytes) f s) = e ∙ answer_fits bytes f s (length buffer) (omega (arith, h.0)) in
+          let z : Err why ≡ Ok (wrote (length bytes) f s) = e ∙ answer_fits bytes f s (length buffer) (omega (arith, h.0)) in
           differ (cc)
       by (refuses w) h e =
           let z : why ≡ w = cc in
@@ -79,7 +79,7 @@ module _ (m : Models) (stream buffer : List ℕ) (size : length buffer ≡ 8192)
       by : (y : Given) → run_given m stream ≡ y → Short y → Ok ran ≡ answer_of y (length buffer) → after ≡ buffer_of y buffer
           → Taken (run_given m stream) ran.written ran.fences after
       by (gives bytes g z) is h e b =
-          let same : Path Answer (Ok ran) (Ok (done (length bytes) g z)) = e ∙ answer_fits bytes g z (length buffer) (omega (arith, h.0)) in
+          let same : Path Answer (Ok ran) (Ok (wrote (length bytes) g z)) = e ∙ answer_fits bytes g z (length buffer) (omega (arith, h.0)) in
           let n : ran.written ≡ length bytes = cc in
           let counted : ran.fences ≡ g = cc in
           let all : after ≡ bytes ++ drop (length bytes) buffer = b ∙ buffer_fits bytes buffer (omega (arith, h.0)) in

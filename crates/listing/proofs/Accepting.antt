@@ -11,7 +11,7 @@ use Rattle.answers.specs.Given.{Given, gives}
 use Rattle.models.specs.declared.model.Model.{Model}
 use Rattle.models.specs.Reading.{reading}
 use Rattle.models.specs.Told.{held, accepting}
-use Rattle.models.proofs.Words.{told, model_told}
+use Rattle.models.proofs.Words.{told, accepted_told}
 use Rattle.printing.proofs.Names.{unfilled_short}
 use Rattle.shims.specs.declared.Models.{Models}
 use Rattle.shims.specs.Opening.{opened_by, Opens}
@@ -81,7 +81,7 @@ module _ (input text : List ℕ) (fences state : ℕ) where
 -- the name of a model that was read
 short_name : (text : List ℕ) {m : Model} → reading text ≡ accepting m → length m.name.bytes ≤ 16
 short_name text e =
-    let d = model_told (told text) e in
+    let d = accepted_told (told text) e in
     let name : List ℕ = d.0.name in
     let few : length (held d.0).name.bytes ≤ 16 = omega (
       arith,
@@ -89,7 +89,7 @@ short_name text e =
       length-replicate {A = ℕ} (16 - length name) 0,
       d.1.name.few,
     ) in
-    subst (λ (x : Model). length x.name.bytes ≤ 16) d.2 few
+    subst (λ (x : Model). length x.name.bytes ≤ 16) d.3 few
 
 module _ {input text : List ℕ} {fences state : ℕ} (call : AcceptedInput input text fences state) where
   next_state_lem : (i a : ℕ) → i < call.states → a < (rule_of call.models).letters → next_state (call.row i a) < 1000

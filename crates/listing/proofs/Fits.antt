@@ -11,7 +11,7 @@ use lib.ListN.{length}
 use Rattle.ground.proofs.Truths.{differ}
 use Rattle.answers.specs.declared.Refusal.{Refusal}
 use Rattle.answers.specs.declared.Done.{Done}
-use Rattle.answers.specs.Answer.{Answer, done}
+use Rattle.answers.specs.Answer.{Answer, wrote}
 use Rattle.answers.specs.Buffer.{answer_with}
 use Rattle.answers.specs.Given.{Given, gives, refuses, answer_of, Delivers, Answers}
 
@@ -19,9 +19,9 @@ answer_within : (text : List ℕ) (f z room : ℕ) (d : Done) → Ok d ≡ answe
 unfolding answer_with
 answer_within text f z room d e = by (leb (length text) room) refl e
   where
-    by : (q : Bool) → leb (length text) room ≡ q → Ok d ≡ cond q (Ok (done (length text) f z)) (Err Refusal.BufferTooSmall) → d.written ≤ room
+    by : (q : Bool) → leb (length text) room ≡ q → Ok d ≡ cond q (Ok (wrote (length text) f z)) (Err Refusal.BufferTooSmall) → d.written ≤ room
     by true h e =
-        let same : d ≡ done (length text) f z = cc in
+        let same : d ≡ wrote (length text) f z = cc in
         omega (arith, ap (λ (x : Done). x.written) same, leb-true (length text) room h)
     by false h e = differ (cc)
 

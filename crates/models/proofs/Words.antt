@@ -93,9 +93,10 @@ told_is {t} (accepted d l h is alone) = by (ends d h)
 pub meets : (t : List ℕ) {r : Reading} → r ≡ reading t → (r ≡ reading t) × Told t r
 meets t e = (e, subst (Told t) (sym e) (told t))
 
--- a model that was read is that of a description of the form
-pub model_told : {t : List ℕ} {r : Reading} {m : Model} → Told t r → r ≡ accepting m → (d : Description) × Formed d × (held d ≡ m)
-model_told (over l) e = differ (cc)
-model_told (departs l n k) e = differ (cc)
-model_told (repeated d k l f t s) e = differ (cc)
-model_told (accepted d l f t s) e = (d, f, cc)
+-- a text that is accepted is that of a description of the form, whose model is read
+pub accepted_told : {t : List ℕ} {r : Reading} {m : Model} → Told t r → r ≡ accepting m
+    → (d : Description) × Formed d × (t ≡ text_of d) × (held d ≡ m)
+accepted_told (over l) e = differ (cc)
+accepted_told (departs l n k) e = differ (cc)
+accepted_told (repeated d k l f t s) e = differ (cc)
+accepted_told (accepted d l f t s) e = (d, f, t, cc)

@@ -6,14 +6,14 @@ use native.Mathlib.Omega.{arith}
 use lib.ListN.{length, length-take}
 use Rattle.models.specs.declared.model.Model.{Model}
 use Rattle.models.specs.Reading.{reading}
-use Rattle.models.proofs.Words.{told, model_told}
+use Rattle.models.proofs.Words.{told, accepted_told}
 use Rattle.models.specs.Told.{accepting}
 use Rattle.shims.specs.Models.{model_of}
 
 pub few_read : (text : List ℕ) {m : Model} → reading text ≡ accepting m → m.fences ≤ 16
 few_read text e =
-    let d = model_told (told text) e in
-    subst (λ (x : Model). x.fences ≤ 16) d.2 d.1.few
+    let d = accepted_told (told text) e in
+    subst (λ (x : Model). x.fences ≤ 16) d.3 d.1.few
 
 -- the same as the rule sees it
 pub few_fences : (m : Model) → m.fences ≤ 16 → length (model_of m).fences ≤ 16
