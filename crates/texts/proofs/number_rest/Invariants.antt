@@ -8,4 +8,5 @@ use Rattle.texts.proofs.number_rest.Given as goal
 abbrev pub invariant-loop-here : goal.invariant-loop-here
 invariant-loop-here l =
     (l.value < l.bound) × (l.here ≤ max l.at (length l.text))
-    × (part_shift l.at (number_rest l.bound l.end l.start (drop l.at l.text)) ≡ part_shift l.here (number_rest l.bound l.end l.value (drop l.here l.text)))
+    × (part_shift l.at (number_rest l.bound l.end l.start (drop l.at l.text))
+    ≡ part_shift l.here (number_rest l.bound l.end l.value (drop l.here l.text)))
