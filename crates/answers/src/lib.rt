@@ -93,7 +93,7 @@ pub fn numbers(answer: Answer) -> [u64; 5]
 }
 
 // Writes the text to the buffer, or nothing where it does not fit. A call that writes makes its text apart and ends with this.
-#[tactic(auto, using(crate::proofs::Laws::buffer_not, crate::proofs::Laws::answer_not, crate::proofs::Laws::answer_fits, crate::proofs::Laws::buffer_fits))]
+#[tactic(auto, unfolding(crate::specs::Buffer::buffer_with, crate::specs::Buffer::answer_with))]
 pub fn write_out(text: &[u8], fences: usize, state: usize, out: &mut [u8]) -> Answer
     ensures { Delivers (gives text.now fences state) out.old result out.new }
 {

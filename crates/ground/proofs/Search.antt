@@ -29,6 +29,7 @@ module _ (b : ℕ) where
   pub not_found : (l : List ℕ) → position here l ≡ None → index_of b l ≡ length l
   not_found l e = omega (arith, first l, prefix_len-le-length (λ (x : ℕ). not (here x)) l, by (ltb (position_or_len here l) (length l)) refl e)
     where
-      by : (q : Bool) → ltb (position_or_len here l) (length l) ≡ q → cond q (Some (position_or_len here l)) None ≡ None → length l ≤ position_or_len here l
+      by : (q : Bool) → ltb (position_or_len here l) (length l) ≡ q → cond q (Some (position_or_len here l)) None ≡ None
+          → length l ≤ position_or_len here l
       by true h e = differ (cc)
       by false h e = ltb-false _ _ h

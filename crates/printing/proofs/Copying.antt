@@ -34,7 +34,8 @@ module _ (before text : List ℕ) (at : ℕ) where
   }
 
   -- where there is
-  pub prints_fits : {b : List ℕ} → at + length text ≤ length before → b ≡ paste before at text (length text) → Prints before b at (at + length text) text
+  pub prints_fits : {b : List ℕ} → at + length text ≤ length before → b ≡ paste before at text (length text)
+      → Prints before b at (at + length text) text
   prints_fits l is = record {
     place = sym (placed_fits (length before) at (length text) l);
     buffer = is ∙ ap (λ (t : List ℕ). take at before ++ t ++ drop (at + length text) before) (take-length text) ∙ sym (printed_fits l);

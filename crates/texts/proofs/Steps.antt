@@ -1,7 +1,7 @@
--- One byte more of a pattern, of a name or of a name's field, at a place of the whole text: what loops go by, and where a name ends.
+-- One byte more of a pattern or of a name's field, at a place of the whole text: what loops go by, and where a name ends.
 -- Assumes nothing.
 use Rattle.std.proofs.Common.{Ok, Err}
-use Prim.Native.Nat.{ℕ, zero, suc, ◌+◌, ◌-◌, ◌≤◌, ◌<◌}
+use Prim.Native.Nat.{ℕ, suc, ◌+◌, ◌-◌, ◌≤◌, ◌<◌}
 use mathlib.Core.Path.{◌≡◌, refl, sym, ap, ap₂, ◌∙◌}
 use mathlib.Core.Bool.{Bool, true, false, cond}
 use mathlib.Core.List.{List, ◌++◌}
@@ -12,7 +12,6 @@ use native.Mathlib.Decide.{dec_lt, ℕ_discrete}
 use borrow.Author.Tests.{eq-eqb, ne_eqb, lt-ltb, le-ltb}
 use lib.ListN.{length, take, drop, get_or, set, replicate, drop_of_length-le, length-drop}
 use lib.Seq.{length-take-le, take-suc, drop-cons, get_or-drop, set_at, append_snoc}
-use Rattle.ground.specs.Bytes.{name_byte}
 use Rattle.ground.proofs.Truths.{differ}
 use Rattle.texts.specs.Step.{Step}
 use Rattle.texts.specs.Language.{shift}
@@ -47,35 +46,6 @@ module _ (ps t : List ℕ) (i here : ℕ) (li : i < length ps) where
 pub follow_done : (ps t : List ℕ) (i here : ℕ) → length ps ≤ i → follow_at (drop i ps) t here ≡ Ok here
 unfolding follow
 follow_done ps t i here l = rw (drop_of_length-le ps l) (ap Ok (add-zero here))
-
--- a run of name bytes is over at another byte, or at the limit: n are all of them
-module _ (t : List ℕ) (here n all limit : ℕ) (h : all ≡ n + name_run limit (drop here t)) where
-  pub run_not : here < length t → name_byte (get_or t here 0) ≡ false → n ≡ all
-  unfolding name_run
-  run_not l f = omega (arith, none limit)
-    where
-      none : (k : ℕ) → name_run k (drop here t) ≡ 0
-      none zero = refl
-      none (suc k) = ap (name_run (suc k)) (drop-cons t here 0 l) ∙ ap (λ (q : Bool). cond q (suc (name_run k (drop (suc here) t))) 0) f
-
-  pub run_full : limit ≡ 0 → n ≡ all
-  unfolding name_run
-  run_full z =
-      let none : name_run limit (drop here t) ≡ 0 = ap (λ (k : ℕ). name_run k (drop here t)) z in
-      omega arith
-
--- and one that goes on
-pub run_more : (t : List ℕ) (here n : ℕ) → n < 16 → here < length t → name_byte (get_or t here 0) ≡ true
-    → n + name_run (16 - n) (drop here t) ≡ n + 1 + name_run (16 - (n + 1)) (drop (here + 1) t)
-unfolding name_run
-run_more t here n ln l f =
-    let k : ℕ = 16 - (n + 1) in
-    let e : 16 - n ≡ suc k = omega arith in
-    let one : name_run (suc k) (drop here t) ≡ suc (name_run k (drop (suc here) t)) =
-    ap (name_run (suc k)) (drop-cons t here 0 l) ∙ ap (λ (q : Bool). cond q (suc (name_run k (drop (suc here) t))) 0) f in
-    let up : name_run k (drop (suc here) t) ≡ name_run k (drop (here + 1) t) = ap (λ (m : ℕ). name_run k (drop m t)) (sym (add-one here)) in
-    let whole : name_run (16 - n) (drop here t) ≡ suc (name_run k (drop (here + 1) t)) = ap (λ (m : ℕ). name_run m (drop here t)) e ∙ one ∙ ap suc up in
-    omega arith
 
 -- in a field of 16 bytes that zeros fill up, the next byte goes in place of a zero
 pub filled_more : (s : List ℕ) (i : ℕ) → i < length s → i < 16

@@ -34,16 +34,11 @@ pub fn follow(text: &[u8], at: usize, pattern: &[u8]) -> Step
     ensures { result ≡ follow_at pattern.now text.now at }
 {
     let mut here = at;
-    let mut i = 0;
-    while i < pattern.len() {
-        if text.len() <= here {
-            return Err(here);
-        }
-        if !fits_pattern(pattern[i], text[here]) {
+    for p in pattern {
+        if text.len() <= here || !fits_pattern(*p, text[here]) {
             return Err(here);
         }
         here += 1;
-        i += 1;
     }
     Ok(here)
 }
@@ -68,10 +63,7 @@ pub fn name(text: &[u8], at: usize, end: u8) -> Step
         return Err(at);
     }
     let past = at + n;
-    if text.len() <= past {
-        return Err(past);
-    }
-    if text[past] != end {
+    if text.len() <= past || text[past] != end {
         return Err(past);
     }
     Ok(past + 1)
@@ -88,7 +80,7 @@ fn with_digit(value: usize, b: u8) -> usize
     requires { (value < 256) × (48 ≤ b) }
     ensures { result ≡ with_digit value b }
 {
-    10 * value + ground::wide(b - b'0')
+    10 * value + usize::from(b - b'0')
 }
 
 // Whether a byte goes on with a number that has been read: a digit, no zero before it, and the number stays below the bound.
@@ -105,8 +97,7 @@ fn number_rest(text: &[u8], at: usize, bound: usize, end: u8, start: usize) -> P
     ensures { result ≡ part_shift at (number_rest bound end start (drop at text.now)) }
 {
     let mut value = start;
-    let mut here = at;
-    while here < text.len() {
+    for here in at..text.len() {
         let b = text[here];
         if b == end {
             return Ok((here + 1, value));
@@ -115,24 +106,19 @@ fn number_rest(text: &[u8], at: usize, bound: usize, end: u8, start: usize) -> P
             return Err(here);
         }
         value = with_digit(value, b);
-        here += 1;
     }
-    Err(here)
+    Err(at.max(text.len()))
 }
 
 // A number below a bound, in decimal without zeros in front, and the byte after it, at a place of the text.
 pub fn number(text: &[u8], at: usize, bound: u8, end: u8) -> Part
     ensures { result ≡ number_at bound end text.now at }
 {
-    if text.len() <= at {
+    if text.len() <= at || !is_digit(text[at]) {
         return Err(at);
     }
-    let b = text[at];
-    if !is_digit(b) {
-        return Err(at);
-    }
-    let value = ground::wide(b - b'0');
-    let limit = ground::wide(bound);
+    let value = usize::from(text[at] - b'0');
+    let limit = usize::from(bound);
     if limit <= value {
         return Err(at);
     }

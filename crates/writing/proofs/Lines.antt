@@ -71,7 +71,9 @@ module _ (names : List Name) (tables : List ℕ) where
       → ◌≡◌ {A = Name × ℕ} (d, e) (get_or (take n (zip names tables)) k (d, e))
       → Put a b at r (fences_text (fences_of k names tables)) → Put b c r s (fence_text (fence d e))
       → Put a c at s (fences_text (fences_of (k + 1) names tables))
-  line_next n k d e l is p q = line_put k d e ln lt p (put_is (ap₂ (λ (m : Name) (t : ℕ). fence_text (fence m t)) (λ i. (own i).0) (λ i. (own i).1)) q)
+  line_next n k d e l is p q =
+      line_put k d e ln lt p
+      (put_is (ap₂ (λ (m : Name) (t : ℕ). fence_text (fence m t)) (λ i. (own i).0) (λ i. (own i).1)) q)
     where
       fewer : k < min n (length (zip names tables))
       fewer = omega (arith, l, length-take n (zip names tables))

@@ -1,12 +1,8 @@
--- `follow` meets its contract: after i bytes of the pattern the whole is what follows from here. Assumes nothing.
-use Prim.Native.Nat.{◌-◌, ◌≤◌}
+-- `follow` meets its contract: after some bytes of the pattern the whole is what follows from here. Assumes nothing.
 use mathlib.Core.Path.{◌≡◌}
-use lib.ListN.{length, drop}
+use lib.ListN.{drop}
 use Rattle.texts.specs.Pattern.{follow_at}
 use Rattle.texts.proofs.follow.Given as goal
 
-abbrev pub invariant-loop-i : goal.invariant-loop-i
-invariant-loop-i l = (l.i ≤ length l.pattern) × (follow_at l.pattern l.text l.at ≡ follow_at (drop l.i l.pattern) l.text l.here)
-
-abbrev pub decreases-loop-i : goal.decreases-loop-i
-decreases-loop-i l = length l.pattern - l.i
+abbrev pub invariant-loop-p : goal.invariant-loop-p
+invariant-loop-p l = follow_at l.pattern l.text l.at ≡ follow_at (drop l.p-index l.pattern) l.text l.here

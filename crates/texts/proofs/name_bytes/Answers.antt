@@ -15,6 +15,7 @@ returns c =
     let a = c.args in
     let next : List ℕ = take 16 (drop a.at a.text.now) in
     count_from_yields_List c.take_while.result _ c.count.ensures.ran
-    (YieldsList-from_take_while _ name_byte (YieldsList-from_take 16 (YieldsList-from_skip a.at (YieldsList-from_slice a.text.now cc) cc) (search rules))
+    (YieldsList-from_take_while _ name_byte
+    (YieldsList-from_take 16 (YieldsList-from_skip a.at (YieldsList-from_slice a.text.now cc) cc) (search rules))
     c.take_while.ensures.closure c.take_while.ensures.done (λ x b q k. search (rules, tests)))
     ∙ length-prefix_len name_byte next ∙ run_counted 16 (drop a.at a.text.now)

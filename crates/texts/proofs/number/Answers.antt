@@ -7,23 +7,25 @@ use lib.ListN.{drop}
 use Rattle.ground.specs.Bytes.{at}
 use Rattle.texts.specs.NumberPart.{part_shift, number_rest}
 use Rattle.texts.proofs.NumberSteps.{number_over, number_not, number_first}
+use Rattle.texts.proofs.number.Goals.{then-text-at-via-then-text-at, then-text-at-via-else-text-at+then-not-is_digit}
 use Rattle.texts.proofs.number.Goals as goal
 
 pub returns-then-text-at : goal.returns-then-text-at
-returns-then-text-at c = sym (number_over _ _ _ _ c.if-text-at.true)
-
-pub returns-then-not-is_digit : goal.returns-then-not-is_digit
-returns-then-not-is_digit c =
+returns-then-text-at c =
     let a = c.args in
-    let other = sym c.is_digit.ensures ∙ c.if-not-is_digit.true in
-    sym (number_not a.bound a.end a.text.now a.at c.if-text-at.false (rw other))
+    elim c.then-text-at.branch [
+      | then-text-at-via-then-text-at w ↦ sym (number_over _ _ _ _ w.if-text-at.true)
+      | then-text-at-via-else-text-at+then-not-is_digit w ↦
+          let other = sym w.is_digit.ensures ∙ w.if-not-is_digit.true in
+          sym (number_not a.bound a.end a.text.now a.at w.if-text-at.false (rw other))
+    ]
 
 pub returns-then-limit-value : goal.returns-then-limit-value
 returns-then-limit-value c =
     let a = c.args in
     let digit = sym c.is_digit.ensures ∙ c.if-not-is_digit.false in
-    let value = c.wide-value.ensures.0 in
-    let limit = c.wide-limit.ensures.0 in
+    let value = c.from-value.ensures in
+    let limit = c.from-limit.ensures in
     let high = le-ltb (at a.text.now a.at - 48) a.bound (omega (arith, c.if-limit-value.true, value, limit)) in
     sym (number_not _ _ _ _ c.if-text-at.false (rw (digit, high)))
 
@@ -31,8 +33,8 @@ pub returns : goal.returns
 returns c =
     let a = c.args in
     let digit = sym c.is_digit.ensures ∙ c.if-not-is_digit.false in
-    let value = c.wide-value.ensures.0 in
-    let limit = c.wide-limit.ensures.0 in
+    let value = c.from-value.ensures in
+    let limit = c.from-limit.ensures in
     let low = lt-ltb (at a.text.now a.at - 48) a.bound (omega (arith, c.if-limit-value.false, value, limit)) in
     c.number_rest.ensures
     ∙ ap₂ (λ (l v : ℕ). part_shift (a.at + 1) (number_rest l a.end v (drop (a.at + 1) a.text.now))) limit value
