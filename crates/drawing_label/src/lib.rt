@@ -78,7 +78,13 @@ fn from_targets(
 }
 
 // From the number of upstream fences on.
-fn from_ups(text: &[u8], upstream: usize, target: usize, way: usize, at: usize) -> Result<Places, usize>
+fn from_ups(
+    text: &[u8],
+    upstream: usize,
+    target: usize,
+    way: usize,
+    at: usize,
+) -> Result<Places, usize>
     ensures { Finds (FromUps (name_from text.now upstream) (name_from text.now target) way)
         text.now at (places_taken text.now result) }
 {

@@ -62,7 +62,12 @@ fn header_for(label: LabelRead, states: usize) -> Header
 }
 
 // From the nodes on.
-fn read_nodes(text: &[u8], at: usize, label: LabelRead, rows: &mut [u16]) -> Result<DrawingRead, usize>
+fn read_nodes(
+    text: &[u8],
+    at: usize,
+    label: LabelRead,
+    rows: &mut [u16],
+) -> Result<DrawingRead, usize>
     requires { Fits label × LabelFormed (label_of label) × (255 * stride ≤ length rows.old) }
     ensures { Reads (FromNodes (label_of label)) text.now at rows.old result rows.new }
 {

@@ -58,7 +58,9 @@ fn crc_byte(sum: u32, byte: u8) -> u32 {
 }
 
 fn crc(bytes: &[u8]) -> u32 {
-    !bytes.iter().fold(u32::MAX, |sum, byte| crc_byte(sum, *byte))
+    !bytes
+        .iter()
+        .fold(u32::MAX, |sum, byte| crc_byte(sum, *byte))
 }
 
 pub(crate) fn print_crc(bytes: &[u8]) {

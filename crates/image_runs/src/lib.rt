@@ -129,7 +129,12 @@ fn put(p: Progress, byte: u8, taken: Move, room: &mut [u8]) -> Progress
 }
 
 // The run from a state, its output to the front of `room`.
-fn run_all<'a>(image: &'a [u8], start: usize, stream: &'a [u8], room: &mut [u8]) -> Result<Progress, Refusal>
+fn run_all<'a>(
+    image: &'a [u8],
+    start: usize,
+    stream: &'a [u8],
+    room: &mut [u8],
+) -> Result<Progress, Refusal>
     requires { (start < 256) × (length stream.now ≤ stream_limit) × (length room.old ≡ 2 * stream_limit) }
     ensures { Ends (walked image.now start stream.now) result room.new }
 {

@@ -17,11 +17,7 @@ fn line_end(text: &[u8]) -> Option<usize>
     ensures { LineEnd text.now result }
 {
     let n = ground::find(text, 0, b'\n');
-    if n < text.len() {
-        Some(n + 1)
-    } else {
-        None
-    }
+    if n < text.len() { Some(n + 1) } else { None }
 }
 
 // The end of the text that begins here, which is that of its first line `end`.

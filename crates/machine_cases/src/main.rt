@@ -135,7 +135,10 @@ fn tso_on_arm(way: u64) {
 // The fields: a name, the upstream text, the target text.
 fn try_pair(fields: &[u8]) {
     io::write_all(1, field(fields, 0));
-    match (models::reader::read(field(fields, 1)), models::reader::read(field(fields, 2))) {
+    match (
+        models::reader::read(field(fields, 1)),
+        models::reader::read(field(fields, 2)),
+    ) {
         (Ok(from), Ok(onto)) => {
             io::write_all(1, b", ");
             try_models(0, from, onto);

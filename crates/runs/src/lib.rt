@@ -47,7 +47,13 @@ fn is_fence(byte: u8) -> bool
 }
 
 // What an access does, at its index.
-fn access(shim: Shim, targets: &[u64], situation: Situation, at: usize, kind: Kind) -> Result<Move, Refusal>
+fn access(
+    shim: Shim,
+    targets: &[u64],
+    situation: Situation,
+    at: usize,
+    kind: Kind,
+) -> Result<Move, Refusal>
     ensures { result ≡ moved_by at (stepped shim.way shim.upstream (target_of shim targets.now) situation kind) }
 {
     match rule::way::take(shim, targets, situation, kind) {
