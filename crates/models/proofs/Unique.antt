@@ -18,5 +18,8 @@ first_bytes_one text p q = p ∙ sym q
 pub bare_model_one : (name : Name) (ppo : Table) {r r' : Model} → r ≡ bare name ppo → r' ≡ bare name ppo → r ≡ r'
 bare_model_one name ppo p q = p ∙ sym q
 
+pub refuse_one : (why : Refusal) {r r' : Reading} → r ≡ refusing why → r' ≡ refusing why → r ≡ r'
+refuse_one why p q = p ∙ sym q
+
 pub read_one : (text : List ℕ) {r r' : Reading} → Told text r → Told text r' → r ≡ r'
 read_one text p q = told_is p ∙ sym (told_is q)

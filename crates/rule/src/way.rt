@@ -24,7 +24,7 @@ pub struct Shim {
     pub target: Table,
 }
 
-// What a way puts before an access.
+// What a way puts before an access. The three outcomes are the rule's own: as a Result of an Option every match on them would be two deep.
 #[derive(Clone, Copy)]
 pub enum Choice {
     Nothing,
@@ -32,7 +32,7 @@ pub enum Choice {
     Refused,
 }
 
-// An access taken, with nothing or with a fence before it, and the situation after it; or refused.
+// An access taken, with nothing or with a fence before it, and the situation after it; or refused: the same three outcomes.
 #[derive(Clone, Copy)]
 pub enum Step {
     Plain(Situation),
