@@ -2,13 +2,11 @@
 use Rattle.std.proofs.Common.{Option, Some, None}
 use Prim.Native.Nat.{ℕ, zero, suc, ◌+◌, ◌≤◌, ◌<◌, zero-le}
 use mathlib.Core.Path.{◌≡◌, refl, sym, ap, ◌∙◌}
-use mathlib.Core.Bool.{Bool, cond}
 use mathlib.Core.Logic.{◌⊎◌, inl, inr}
 use mathlib.Core.List.{List, [], ◌∷◌, ◌++◌, append-nil}
 use native.Mathlib.Omega.{arith}
 use native.Mathlib.Nat.{add-zero}
 use borrow.Author.Tests.{ne_eqb}
-use lib.Dec.{eqb}
 use lib.ListN.{length, take, drop, get_or, length-drop}
 use lib.Seq.{drop-cons, get_or-drop, length-take-le}
 use Rattle.operations.specs.declared.Kind.{Kind}
@@ -18,7 +16,13 @@ use Rattle.operations.specs.Alphabet.{fence_mark}
 use Rattle.operations.proofs.Bytes.{fence_read, written_read}
 use Rattle.texts.specs.Language.{Begins, Longest, Any, Some as SomeText, Unique}
 use Rattle.texts.specs.Telling.{took, stopped, Finds, finds, departs}
-use Rattle.drawing_edges.specs.Edges.{fence_in, fence_number, MarkPart}
+use Rattle.drawing_edges.specs.Edges.{fence_in, fence_named, MarkPart}
+
+none_some : {n : ℕ} → ◌≡◌ {A = Option ℕ} None (Some n) → ⊥
+none_some e = cc
+
+some_same : {m n : ℕ} → ◌≡◌ {A = Option ℕ} (Some m) (Some n) → m ≡ n
+some_same e = cc
 
 -- the fences that have a mark here
 Markable : ℕ → ℕ → Type 0
@@ -27,48 +31,50 @@ Markable marks fence = (fence < marks) ⊎ (fence ≡ 255)
 low_mark : (f : ℕ) → f < 16 → fence_mark f ≡ fence_byte f
 low_mark f l = simp (ne_eqb f 254 (omega arith), ne_eqb f 255 (omega arith))
 
-number_of_mark : (f : ℕ) → f < 16 → fence_number (fence_mark f) ≡ f
-unfolding fence_number
-number_of_mark f l = ap (λ (b : ℕ). fence_in (byte_is b)) (low_mark f l) ∙ ap fence_in (fence_read f l)
+mark_names : (f : ℕ) → f < 16 → fence_named (fence_mark f) ≡ Some f
+unfolding fence_named
+mark_names f l = ap (λ (b : ℕ). fence_in (byte_is b)) (low_mark f l) ∙ ap fence_in (fence_read f l)
 
-mark_of_number : (b n : ℕ) → n ≡ fence_number b → n < 16 → fence_mark n ≡ b
-unfolding fence_number
-mark_of_number b n e l = by (byte_is b) refl e
+mark_named : (b n : ℕ) → fence_named b ≡ Some n → n < 16 → fence_mark n ≡ b
+unfolding fence_named
+mark_named b n e l = by (byte_is b) refl e
   where
-    by : (x : Option Operation) → byte_is b ≡ x → n ≡ fence_in x → fence_mark n ≡ b
-    by (Some (Operation.Fence m)) is e = low_mark n l ∙ ap fence_byte e ∙ written_read b (Operation.Fence m) is
-    by (Some (Operation.Access k)) is e = absurd (omega arith)
-    by None is e = absurd (omega arith)
+    by : (x : Option Operation) → byte_is b ≡ x → fence_in x ≡ Some n → fence_mark n ≡ b
+    by (Some (Operation.Fence m)) is e =
+        let same : m ≡ n = cc in
+        low_mark n l ∙ ap fence_byte (sym same) ∙ written_read b (Operation.Fence m) is
+    by (Some (Operation.Access k)) is e = absurd (none_some e)
+    by None is e = absurd (none_some e)
 
 -- what a byte was read as names the fence
 module _ (b : ℕ) {x : Option Operation} (is : x ≡ byte_is b) where
-  pub named_fence : {op : Operation} {n : ℕ} → x ≡ Some op → op ≡ Operation.Fence n → n ≡ fence_number b
-  unfolding fence_number
+  pub named_fence : {op : Operation} {n : ℕ} → x ≡ Some op → op ≡ Operation.Fence n → Some n ≡ fence_named b
+  unfolding fence_named
   named_fence e f = sym (ap (λ (o : Operation). fence_in (Some o)) f) ∙ ap fence_in (sym e ∙ is)
 
-  pub named_access : {op : Operation} {k : Kind} → x ≡ Some op → op ≡ Operation.Access k → 16 ≡ fence_number b
-  unfolding fence_number
+  pub named_access : {op : Operation} {k : Kind} → x ≡ Some op → op ≡ Operation.Access k → None ≡ fence_named b
+  unfolding fence_named
   named_access e f = sym (ap (λ (o : Operation). fence_in (Some o)) f) ∙ ap fence_in (sym e ∙ is)
 
-  pub named_nothing : x ≡ None → 16 ≡ fence_number b
-  unfolding fence_number
+  pub named_nothing : x ≡ None → None ≡ fence_named b
+  unfolding fence_named
   named_nothing e = ap fence_in (sym e ∙ is)
 
--- the fence that a mark tells
-told : ℕ → ℕ
-told b = cond (eqb b 45) 255 (fence_number b)
-
-dash_no_fence : fence_number 45 ≡ 16
-unfolding fence_number byte_is
+-- a dash names no fence
+dash_no_fence : fence_named 45 ≡ None
+unfolding fence_named byte_is
 dash_no_fence = refl
 
-told_mark : {marks : ℕ} (f : ℕ) → marks ≤ 16 → Markable marks f → told (fence_mark f) ≡ f
-unfolding told Markable
-told_mark f few (inl l) =
-    let low : f < 16 = omega arith in
-    let other : fence_mark f ≡ 45 → ⊥ = λ e. omega (arith, sym (number_of_mark f low) ∙ ap fence_number e ∙ dash_no_fence) in
-    ap (λ (q : Bool). cond q 255 (fence_number (fence_mark f))) (ne_eqb (fence_mark f) 45 other) ∙ number_of_mark f low
-told_mark f few (inr e) = ap (λ (x : ℕ). told (fence_mark x)) e ∙ sym e
+no_dash : (f : ℕ) → f < 16 → fence_mark f ≡ 45 → ⊥
+no_dash f l e = none_some (sym dash_no_fence ∙ ap fence_named (sym e) ∙ mark_names f l)
+
+same_mark : {marks : ℕ} (f g : ℕ) → marks ≤ 16 → Markable marks f → Markable marks g → fence_mark f ≡ fence_mark g → f ≡ g
+unfolding Markable
+same_mark f g few (inl l) (inl m) e =
+    some_same (sym (mark_names f (omega arith)) ∙ ap fence_named e ∙ mark_names g (omega arith))
+same_mark f g few (inl l) (inr is) e = absurd (no_dash f (omega arith) (e ∙ ap fence_mark is))
+same_mark f g few (inr is) (inl m) e = absurd (no_dash g (omega arith) (sym e ∙ ap fence_mark is))
+same_mark f g few (inr is) (inr also) e = is ∙ sym also
 
 pub mark_small : {marks f : ℕ} {x : List ℕ} → marks ≤ 16 → MarkPart marks f x → f ≤ 255
 mark_small few (inl l, e) = omega arith
@@ -81,7 +87,7 @@ unique_mark marks few s m n a b lm ln (va, ea) (vb, eb) =
     let en : n ≡ 1 = sym (length-take-le n s ln) ∙ ap length eb in
     let same : m ≡ n = em ∙ sym en in
     let marks-same : fence_mark a ≡ fence_mark b = ap (λ (x : List ℕ). get_or x 0 0) (sym ea ∙ ap (λ (i : ℕ). take i s) same ∙ eb) in
-    (same, sym (told_mark a few va) ∙ ap told marks-same ∙ told_mark b few vb)
+    (same, same_mark a b few va vb marks-same)
 
 pub some_mark : (marks : ℕ) → SomeText (Any (MarkPart marks))
 some_mark marks = (45 ∷ [], (255, (inr refl, refl)))
@@ -128,15 +134,26 @@ module _ {marks : ℕ} {t : List ℕ} {at : ℕ} where
   unfolding Markable
   mark_dash l e = here l 255 (inr refl) (sym e)
 
-  module _ (few : marks ≤ 16) (l : at < length t) {n : ℕ} (is : n ≡ fence_number (get_or t at 0)) where
-    pub mark_fence : n < marks → Finds (MarkPart marks) t at (took (at + 1) n)
+  module _ (few : marks ≤ 16) (l : at < length t) where
+    pub mark_fence : {n : ℕ} → fence_named (get_or t at 0) ≡ Some n → n < marks → Finds (MarkPart marks) t at (took (at + 1) n)
     unfolding Markable
-    mark_fence low = here l n (inl low) (mark_of_number (get_or t at 0) n is (omega arith))
+    mark_fence {n} is low = here l n (inl low) (mark_named (get_or t at 0) n is (omega arith))
 
-    pub mark_other : (get_or t at 0 ≡ 45 → ⊥) → marks ≤ n → Finds (MarkPart marks) t at (stopped at)
-    unfolding Markable
-    mark_other no-dash high = nowhere none
-      where
-        none : (f : ℕ) → Markable marks f → at < length t → get_or t at 0 ≡ fence_mark f → ⊥
-        none f (inl low) h e = omega (arith, is ∙ ap fence_number e ∙ number_of_mark f (omega arith))
-        none f (inr i) h e = no-dash (e ∙ ap fence_mark i)
+    module _ (other : get_or t at 0 ≡ 45 → ⊥) where
+      -- the byte would name each fence that could be told here
+      told_none : ((f : ℕ) → f < marks → fence_named (get_or t at 0) ≡ Some f → ⊥) → Finds (MarkPart marks) t at (stopped at)
+      unfolding Markable
+      told_none free = nowhere none
+        where
+          none : (f : ℕ) → Markable marks f → at < length t → get_or t at 0 ≡ fence_mark f → ⊥
+          none f (inl low) h e = free f low (ap fence_named e ∙ mark_names f (omega arith))
+          none f (inr i) h e = other (e ∙ ap fence_mark i)
+
+      pub mark_nothing : fence_named (get_or t at 0) ≡ None → Finds (MarkPart marks) t at (stopped at)
+      mark_nothing is = told_none (λ f low e. none_some (sym is ∙ e))
+
+      pub mark_other : {n : ℕ} → fence_named (get_or t at 0) ≡ Some n → marks ≤ n → Finds (MarkPart marks) t at (stopped at)
+      mark_other {n} is high = told_none above
+        where
+          above : (f : ℕ) → f < marks → fence_named (get_or t at 0) ≡ Some f → ⊥
+          above f low e = let same : n ≡ f = some_same (sym is ∙ e) in omega arith

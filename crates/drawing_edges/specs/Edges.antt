@@ -10,14 +10,14 @@ use Rattle.texts.specs.Telling.{Then, Through, Either, Word, Numbered}
 use Rattle.image.specs.Image.{AccessWordIn, FenceWordIn}
 use Rattle.drawing_edges.specs.declared.Shape.{Shape}
 
--- the fence that a byte names; 16, which no fence has, where it names none
-abbrev pub fence_in : Option Operation → ℕ
-fence_in (Some (Operation.Fence n)) = n
-fence_in (Some (Operation.Access k)) = 16
-fence_in None = 16
+-- the fence that a byte names
+abbrev pub fence_in : Option Operation → Option ℕ
+fence_in (Some (Operation.Fence n)) = Some n
+fence_in (Some (Operation.Access k)) = None
+fence_in None = None
 
-unfoldable pub fence_number : ℕ → ℕ
-fence_number b = fence_in (byte_is b)
+unfoldable pub fence_named : ℕ → Option ℕ
+fence_named b = fence_in (byte_is b)
 
 -- from the label's beginning to the mark
 abbrev pub middle : ℕ → List ℕ

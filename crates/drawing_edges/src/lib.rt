@@ -1,11 +1,10 @@
 // One edge of a drawing, read back: the word of a state and a letter.
 #![tactic(auto)]
 
-ghost use Rattle.std.specs.Prelude.{◌≤◌, ◌<◌, ◌≡◌, T};
-ghost use Rattle.texts.specs.Pattern.{is_word, follow_at};
-ghost use Rattle.texts.specs.Telling.{Through, Word, Finds, part_taken};
-ghost use Rattle.drawing_edges.specs.Edges.{fence_number, middle, MarkPart, RefusedLabel, Refused, Marked};
-ghost use Rattle.drawing_edges.specs.Edges.{LedLabel, Led, EdgeEnd, EdgePart, Shaped, nearest};
+ghost use Rattle.std.specs.Prelude.{◌≤◌, ◌≡◌};
+ghost use Rattle.texts.specs.Pattern.{follow_at};
+ghost use Rattle.texts.specs.Telling.{Finds, part_taken};
+ghost use Rattle.drawing_edges.specs.Edges.{fence_named, middle, MarkPart, Refused, Led, EdgeEnd, EdgePart, Shaped, nearest};
 
 use drawing_nodes::decimal;
 use operations::alphabet::{ACCESSES, STRIDE};
@@ -20,14 +19,14 @@ pub struct Shape {
     pub targets: usize,
 }
 
-// The fence that a byte names, 16 where it names none.
+// The fence that a byte names.
 #[tactic(auto, using(crate::proofs::Marks::named_fence, crate::proofs::Marks::named_access, crate::proofs::Marks::named_nothing))]
-fn fence_number(b: u8) -> usize
-    ensures { result ≡ fence_number b }
+fn fence_named(b: u8) -> Option<usize>
+    ensures { result ≡ fence_named b }
 {
     match operations::read_byte(b) {
-        Some(Operation::Fence(n)) => n,
-        _ => 16,
+        Some(Operation::Fence(n)) => Some(n),
+        _ => None,
     }
 }
 
@@ -36,14 +35,11 @@ fn mark(text: &[u8], at: usize, marks: usize) -> Part
     requires { marks ≤ 16 }
     ensures { Finds (MarkPart marks) text.now at (part_taken result) }
 {
-    if text.len() <= at {
-        return Err(at);
-    }
-    let b = text[at];
+    let b = *text.get(at).ok_or(at)?;
     if b == b'-' {
         return Ok((at + 1, 255));
     }
-    let n = fence_number(b);
+    let n = fence_named(b).ok_or(at)?;
     if n < marks {
         return Ok((at + 1, n));
     }
@@ -59,57 +55,14 @@ fn label_part(text: &[u8], at: usize, letter: usize) -> Step
     texts::follow(text, at, &word)
 }
 
-// A word, which comes last and gives a value to what was read.
-fn value_behind<'a>(text: &'a [u8], at: usize, word: &'a [u8], value: usize) -> Part
-    requires { T (is_word word.now) }
-    ensures { Finds (Through (λ _. value) (Word word.now)) text.now at (part_taken result) }
-{
-    match texts::follow(text, at, word) {
-        Err(place) => Err(place),
-        Ok(past) => Ok((past, value)),
-    }
-}
-
-// Behind `refused `.
-fn refused_label(text: &[u8], at: usize, letter: usize) -> Part
-    ensures { Finds (RefusedLabel letter) text.now at (part_taken result) }
-{
-    match label_part(text, at, letter) {
-        Err(place) => Err(place),
-        Ok(mark_at) => value_behind(text, mark_at, b"!\"];\n", 256 * 254),
-    }
-}
-
 // Behind the arrow, of a refused operation.
 fn refused_end(text: &[u8], at: usize, letter: usize) -> Part
     ensures { Finds (Refused letter) text.now at (part_taken result) }
 {
-    match texts::follow(text, at, b"refused ") {
-        Err(place) => Err(place),
-        Ok(label) => refused_label(text, label, letter),
-    }
-}
-
-// From the mark on, of an operation that leads to a state.
-fn marked(text: &[u8], at: usize, marks: usize, next: usize) -> Part
-    requires { (marks ≤ 16) × (next < 256) }
-    ensures { Finds (Marked marks next) text.now at (part_taken result) }
-{
-    match mark(text, at, marks) {
-        Err(place) => Err(place),
-        Ok((past, fence)) => value_behind(text, past, b"\"];\n", 256 * fence + next),
-    }
-}
-
-// Behind the state.
-fn led_label(text: &[u8], at: usize, marks: usize, letter: usize, next: usize) -> Part
-    requires { (marks ≤ 16) × (next < 256) }
-    ensures { Finds (LedLabel marks letter next) text.now at (part_taken result) }
-{
-    match label_part(text, at, letter) {
-        Err(place) => Err(place),
-        Ok(mark_at) => marked(text, mark_at, marks, next),
-    }
+    let label = texts::follow(text, at, b"refused ")?;
+    let mark_at = label_part(text, label, letter)?;
+    let past = texts::follow(text, mark_at, b"!\"];\n")?;
+    Ok((past, 256 * 254))
 }
 
 // Behind the arrow, of an operation that leads to a state.
@@ -117,10 +70,11 @@ fn led_end(text: &[u8], at: usize, states: u8, marks: usize, letter: usize) -> P
     requires { (1 ≤ states) × (marks ≤ 16) }
     ensures { Finds (Led states marks letter) text.now at (part_taken result) }
 {
-    match texts::number(text, at, states, b' ') {
-        Err(place) => Err(place),
-        Ok((label, next)) => led_label(text, label, marks, letter, next),
-    }
+    let (label, next) = texts::number(text, at, states, b' ')?;
+    let mark_at = label_part(text, label, letter)?;
+    let (end, fence) = mark(text, mark_at, marks)?;
+    let past = texts::follow(text, end, b"\"];\n")?;
+    Ok((past, 256 * fence + next))
 }
 
 // Behind the arrow. Where the edge of an access leads its first byte tells: no number begins as `refused` does.
@@ -137,19 +91,8 @@ fn edge_end(text: &[u8], at: usize, shape: Shape, letter: usize) -> Part
     led_end(text, at, shape.states, shape.targets, letter)
 }
 
-// The edge of a state and a letter: its word.
-fn edge(text: &[u8], at: usize, shape: Shape, state: usize, letter: usize) -> Part
-    requires { Shaped shape }
-    ensures { Finds (EdgePart shape state letter) text.now at (part_taken result) }
-{
-    match decimal::follow_decimal(text, at, state, b" -> ") {
-        Err(place) => Err(place),
-        Ok(past) => edge_end(text, past, shape, letter),
-    }
-}
-
-// The edge of a state and a letter in a machine of any shape: one that no machine has counts as the nearest that one has. A machine has at least
-// one state.
+// The edge of a state and a letter in a machine of any shape: its word. A shape that no machine has counts as the nearest that one has. A machine
+// has at least one state.
 pub fn edge_line(text: &[u8], at: usize, shape: Shape, state: usize, letter: usize) -> Part
     ensures { Finds (EdgePart (nearest shape) state letter) text.now at (part_taken result) }
 {
@@ -158,5 +101,6 @@ pub fn edge_line(text: &[u8], at: usize, shape: Shape, state: usize, letter: usi
         letters: shape.letters.min(STRIDE),
         targets: shape.targets.min(16),
     };
-    edge(text, at, possible, state, letter)
+    let past = decimal::follow_decimal(text, at, state, b" -> ")?;
+    edge_end(text, past, possible, letter)
 }

@@ -1,4 +1,5 @@
 pub mod Words
 pub mod Fields
 pub mod Labels
+pub mod Parts
 pub mod Unique

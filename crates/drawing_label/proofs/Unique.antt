@@ -4,7 +4,7 @@ use Rattle.std.proofs.Common.{Result, Ok, Err, IfOk}
 use Prim.Native.Nat.{ℕ}
 use mathlib.Core.Path.{◌≡◌, sym, ap, ap₂, ◌∙◌}
 use mathlib.Core.List.{List}
-use Rattle.texts.specs.Telling.{took, stopped, Taken, Finds}
+use Rattle.texts.specs.Telling.{Finds}
 use Rattle.texts.proofs.Telling.{finds_one}
 use Rattle.drawing_label.specs.declared.LabelRead.{LabelRead}
 use Rattle.drawing_label.specs.Label.{Label, LabelPart, field, label_of, label_taken, Fits}

@@ -11,8 +11,6 @@ pub fn follow_decimal<'a>(text: &'a [u8], at: usize, number: usize, after: &'a [
 {
     let mut digits = [0u8; 20];
     let n = printing::put_decimal(&mut digits, 0, number as u64);
-    match texts::follow(text, at, &digits[..n]) {
-        Err(place) => Err(place),
-        Ok(place) => texts::follow(text, place, after),
-    }
+    let past = texts::follow(text, at, &digits[..n])?;
+    texts::follow(text, past, after)
 }

@@ -1,5 +1,6 @@
 -- How the reader goes on from one part of a drawing to the next, and what it has read in the end: each by the law for one part and then another,
 -- and by the texts of the whole part, which are the drawings. Assumes nothing.
+use Rattle.std.specs.Prelude.{IsErrAnd, MatchResult}
 use Rattle.std.proofs.Common.{Result, Ok, Err}
 use Prim.Native.Nat.{ℕ, ◌+◌, ◌*◌, ◌%◌, ◌≤◌, ◌<◌}
 use mathlib.Core.Path.{◌≡◌, refl, sym, ap, ap₂, subst, ◌∙◌}
@@ -9,6 +10,7 @@ use native.Mathlib.Decide.{dec_lt}
 use lib.ListN.{length, take, drop, get_or, replicate, length-append, length-drop, length-replicate, get_or-replicate, get_or-eq_default}
 use lib.Seq.{get_or-drop, get_or-take, get_or_at, length-take-le}
 use Rattle.ground.specs.Bytes.{at, bytes}
+use Rattle.answers.specs.declared.Refusal.{Refusal}
 use Rattle.operations.specs.Alphabet.{access_letters, stride}
 use Rattle.printing.specs.Turns.{in_turn}
 use Rattle.texts.specs.Step.{Step}
@@ -195,6 +197,14 @@ zero-at i = by (dec_lt i (255 * stride))
 
 no_drawing : (t : List ℕ) {k : ℕ} → Longest (Any WholePart) t k × (Any WholePart t → ⊥) → (Drawing t → ⊥) × Longest Drawing t k
 no_drawing t {k} (longest, none) = ((λ d. none (drawing_any t d)), longest_iff (Any WholePart) Drawing any_drawing drawing_any t k longest)
+
+-- a refusal for the form has the place at which reading stopped
+pub refused_at : {r : Result DrawingRead ℕ} {x : Result DrawingRead Refusal} {e : Refusal}
+    → MatchResult r (λ d. x ≡ Ok d) (λ k. IsErrAnd x (λ y. y ≡ Refusal.NotOfTheForm k)) → x ≡ Err e
+    → (k : ℕ) × (r ≡ Err k) × (e ≡ Refusal.NotOfTheForm k)
+refused_at {r = Ok d} m is = absurd (cc)
+refused_at {r = Err k} {x = Ok d} m is = absurd m
+refused_at {r = Err k} {x = Err y} {e} m is = let same : y ≡ e = cc in (k, refl, sym same ∙ m)
 
 -- what was read in the end, by a text's length; the rows were zeros before
 module _ (t : List ℕ) (rows : List ℕ) {r : Result DrawingRead ℕ} (read : Reads WholePart t 0 (replicate (255 * stride) 0) r rows) where

@@ -6,7 +6,7 @@ ghost use Rattle.drawing_reader.specs.inner.Rows.{ReadsRow, ReadsRows};
 
 use drawing_edges::Shape;
 use operations::alphabet::STRIDE;
-use texts::{Part, Step};
+use texts::Step;
 
 // The edges of a state: their words to its row.
 fn edge_row(text: &[u8], start: usize, rows: &mut [u16], shape: Shape, state: usize) -> Step
@@ -16,13 +16,9 @@ fn edge_row(text: &[u8], start: usize, rows: &mut [u16], shape: Shape, state: us
     let letters = shape.letters;
     let mut here = start;
     for letter in 0..letters {
-        match drawing_edges::edge_line(text, here, shape, state, letter) {
-            Err(place) => return Err(place),
-            Ok((past, word)) => {
-                rows[state * STRIDE + letter] = word as u16;
-                here = past;
-            }
-        }
+        let (past, word) = drawing_edges::edge_line(text, here, shape, state, letter)?;
+        rows[state * STRIDE + letter] = word as u16;
+        here = past;
     }
     Ok(here)
 }
@@ -35,10 +31,7 @@ pub(crate) fn edge_rows(text: &[u8], start: usize, rows: &mut [u16], shape: Shap
     let states = ground::wide(shape.states);
     let mut here = start;
     for state in 0..states {
-        match edge_row(text, here, rows, shape, state) {
-            Err(place) => return Err(place),
-            Ok(past) => here = past,
-        }
+        here = edge_row(text, here, rows, shape, state)?;
     }
     Ok(here)
 }

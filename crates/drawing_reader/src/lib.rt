@@ -94,10 +94,7 @@ pub fn undraw(text: &[u8], out: &mut [u8]) -> Answer
         return Err(Refusal::OverLimit);
     }
     let mut rows = [0u16; WORDS];
-    let drawing = match read(text, &mut rows) {
-        Err(place) => return Err(Refusal::NotOfTheForm(place)),
-        Ok(drawing) => drawing,
-    };
+    let drawing = read(text, &mut rows).map_err(Refusal::NotOfTheForm)?;
     let end = drawing.next;
     if end != text.len() {
         return Err(Refusal::NotOfTheForm(end));

@@ -8,7 +8,7 @@ use native.Mathlib.Omega.{arith}
 use lib.ListN.{length, get_or, take, drop, set, length-set, drop_of_length-le}
 use lib.Seq.{drop-cons, take-suc-set}
 use Rattle.answers.specs.declared.Refusal.{Refusal}
-use Rattle.answers.specs.Given.{Given, refuses}
+use Rattle.answers.specs.Given.{Given}
 use Rattle.operations.specs.Operation.{fence_byte}
 use Rattle.rule.specs.declared.situation.Situation.{Situation}
 use Rattle.rule.specs.declared.way.Shim.{Shim}

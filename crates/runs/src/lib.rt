@@ -85,10 +85,9 @@ fn advance<'a>(
 ) -> Result<Move, Refusal>
     ensures { result ≡ for_shim moved shim fences.now targets.now situation at byte }
 {
-    match operations::read_byte(byte) {
-        None => Err(Refusal::NoOperation(at)),
-        Some(Operation::Access(kind)) => access(shim, targets, situation, at, kind),
-        Some(Operation::Fence(number)) => ask(fences, situation, at, number),
+    match operations::read_byte(byte).ok_or(Refusal::NoOperation(at))? {
+        Operation::Access(kind) => access(shim, targets, situation, at, kind),
+        Operation::Fence(number) => ask(fences, situation, at, number),
     }
 }
 

@@ -1,7 +1,7 @@
 -- `label` meets its contract: a name is what stands in its field before the zeros. Assumes nothing.
 use Rattle.std.proofs.Common.{Result, Ok, Err}
 use Prim.Native.Nat.{ℕ}
-use mathlib.Core.Path.{◌≡◌, refl, sym, ap, ap₂, subst, ◌∙◌}
+use mathlib.Core.Path.{◌≡◌, sym, ap, ap₂, subst, ◌∙◌}
 use mathlib.Core.List.{List}
 use borrow.Author.Rules.{rules}
 use Rattle.texts.specs.Telling.{took, Finds}

@@ -1,7 +1,6 @@
 -- `read_nodes` meets its contract: the nodes, and the edges from the `0` behind them on. Assumes nothing.
-use Rattle.std.proofs.Common.{Ok, Err}
-use Prim.Native.Nat.{ℕ, ◌≤◌}
-use mathlib.Core.Path.{◌≡◌, subst}
+use Rattle.std.proofs.Common.{Err}
+use mathlib.Core.Path.{subst}
 use borrow.Author.Rules.{rules}
 use Rattle.texts.specs.Step.{Step}
 use Rattle.drawing_label.specs.Label.{label_of, label_for}

@@ -1,4 +1,4 @@
-use mathlib.Core.Path.{sym, ◌∙◌}
+use mathlib.Core.Path.{sym}
 use borrow.Author.Rules.{rules}
 use Rattle.runs.proofs.Running.{starts, ends, stops, goes_on}
 use Rattle.runs.proofs.run_stream.Goals as goal

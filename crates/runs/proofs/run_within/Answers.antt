@@ -1,9 +1,8 @@
 -- `run_within` meets its contract: the run by moves is the direct run. Assumes nothing.
 use Prim.Native.Nat.{ℕ}
 use lib.ListN.{take}
-use mathlib.Core.Path.{◌≡◌, sym, ap, ◌∙◌}
+use mathlib.Core.Path.{sym, ap, ◌∙◌}
 use borrow.Author.Rules.{rules}
-use Rattle.answers.specs.declared.Refusal.{Refusal}
 use Rattle.answers.specs.Given.{gives}
 use Rattle.answers.proofs.Given.{delivers_as, refusal_delivered}
 use Rattle.rule.specs.Sides.{upstream_of, target_of}

@@ -3,11 +3,11 @@ use Rattle.std.proofs.Common.{Err}
 use Prim.Native.Nat.{ℕ, ◌<◌, ◌^◌}
 use mathlib.Core.Path.{refl, sym, ap, ◌∙◌}
 use mathlib.Core.List.{List}
+use borrow.Author.Rules.{rules}
 use lib.ListN.{replicate}
 use native.Mathlib.Nat.{lt_trans}
 use native.Mathlib.Omega.{arith}
 use lib.Dec.{lit<}
-use Rattle.texts.specs.Step.{Step}
 use Rattle.texts.specs.Pattern.{follow_at}
 use Rattle.texts.proofs.Language.{step_stuck, step_next}
 use Rattle.printing.specs.Decimal.{decimal}
@@ -28,18 +28,19 @@ slice_bounds-digits-end c = (fronts c.args.number (omega (arith, c.ranges.number
 pub slice_bounds-follow-end : goal.slice_bounds-follow-end
 slice_bounds-follow-end c = (fronts c.args.number (omega (arith, c.ranges.number)) c.put_decimal-n.ensures).count
 
-pub returns-in-Err : goal.returns-in-Err
-returns-in-Err c =
+pub returns-in_err-past : goal.returns-in_err-past
+returns-in_err-past c =
     let a = c.args in
     let f = fronts a.number (omega (arith, c.ranges.number)) c.put_decimal-n.ensures in
-    step_stuck Err (follow_at a.after.now a.text.now)
-    (c.follow.ensures ∙ ap (λ (w : List ℕ). follow_at w a.text.now a.at) f.bytes) c.in-Err.is refl
-    ∙ sym (follow_then (decimal a.number) a.after.now a.text.now a.at)
+    let stop = step_stuck Err (follow_at a.after.now a.text.now)
+    (c.follow.ensures ∙ ap (λ (w : List ℕ). follow_at w a.text.now a.at) f.bytes) c.in_err-past.was refl
+    ∙ sym (follow_then (decimal a.number) a.after.now a.text.now a.at) in
+    search (rules, stop)
 
-pub returns-in-Ok : goal.returns-in-Ok
-returns-in-Ok c =
+pub returns : goal.returns
+returns c =
     let a = c.args in
     let f = fronts a.number (omega (arith, c.ranges.number)) c.put_decimal-n.ensures in
     step_next Err (follow_at a.after.now a.text.now)
-    (c.follow.ensures ∙ ap (λ (w : List ℕ). follow_at w a.text.now a.at) f.bytes) c.in-Ok.is c.follow-in-Ok.ensures
+    (c.follow.ensures ∙ ap (λ (w : List ℕ). follow_at w a.text.now a.at) f.bytes) c.in_ok-past.was c.follow-2.ensures
     ∙ sym (follow_then (decimal a.number) a.after.now a.text.now a.at)

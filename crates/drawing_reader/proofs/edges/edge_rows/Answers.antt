@@ -6,12 +6,12 @@ use Rattle.drawing_reader.proofs.edges.edge_rows.Goals as goal
 pub loop-state-init : goal.loop-state-init
 loop-state-init c = (search rules, rows_none _ _ _ _)
 
-pub returns-in-Err : goal.returns-in-Err
-returns-in-Err c =
+pub returns-in_err-here : goal.returns-in_err-here
+returns-in_err-here c =
     let inv = c.loop-state.invariant in
-    rows_stop _ c.requires.0 _ _ _ _ _ _ inv.1
-    (omega (arith, inv.0, c.loop-state-test.true)) _ _ c.edge_row.ensures
-    c.in-Err.is
+    let stop = rows_stop _ c.requires.0 _ _ _ _ _ _ inv.1
+    (omega (arith, inv.0, c.loop-state-test.true)) _ _ c.edge_row.ensures c.in_err-here.was in
+    search (rules, stop)
 
 pub loop-state-preserved : goal.loop-state-preserved
 loop-state-preserved c =
@@ -19,7 +19,7 @@ loop-state-preserved c =
       inv.0,
       rows_more _ c.requires.0 _ _ _ _ _ _ inv.1
           (omega (arith, inv.0, c.loop-state-test.true)) _ _ c.edge_row.ensures
-          c.in-Ok.is,
+          c.in_ok-here.was,
     )
 
 pub returns : goal.returns
