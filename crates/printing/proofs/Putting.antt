@@ -5,9 +5,9 @@ use mathlib.Core.List.{List, [], ◌++◌, append_assoc, append-nil}
 use native.Mathlib.Decide.{dec_le}
 use native.Mathlib.Omega.{arith}
 use lib.ListN.{length, take, drop, length-append}
-use lib.Seq.{take-length, length-take-le, paste, length-paste, take-paste}
+use lib.Seq.{take-length, paste, length-paste, take-paste}
 use Rattle.printing.specs.Printing.{Prints}
-use Rattle.printing.specs.Putting.{Put, Fronts}
+use Rattle.printing.specs.Putting.{Put}
 use Rattle.printing.proofs.Copying.{placed_fits, placed_not, printed_fits, printed_not}
 
 -- a put is the least of such chains
@@ -76,9 +76,8 @@ put_then {a} {b} {c} {x} {y} {at} {r} {s} p q = record {
     by (yes l) h = omega (arith, p.size, q.past (omega (arith, long, h, p.place l, p.size)))
     by (no g) h = omega (arith, p.size, q.past (omega (arith, p.past (omega arith), p.size)))
 
--- a chain from the front, where there is room for its text: the text is all that stands up to the place that is told
-pub put_fronts : {before after text : List ℕ} {r : ℕ} → Put before after 0 r text → length text ≤ length before → Fronts after r text
-put_fronts {before} {after} {text} {r} p l =
-    let h : 0 + length text ≤ length before = omega arith in
-    let inside : r ≤ length after = omega (arith, p.place h, p.size) in
-    record { inside = inside; count = sym (length-take-le r after inside); bytes = p.bytes h }
+-- a chain on a page with nothing on it, where there is room for its text: the text is all that is on the page
+pub put_fronts : {bytes before after text : List ℕ} {at r : ℕ} → before ≡ bytes → at ≡ 0 → Put before after at r text → length text ≤ length bytes
+    → take r after ≡ text
+put_fronts {before = before} {text = text} same none p l =
+    p.bytes (omega (arith, none, ap length same)) ∙ ap (λ (n : ℕ). take n before ++ text) none
