@@ -31,13 +31,13 @@ Markable marks fence = (fence < marks) ⊎ (fence ≡ 255)
 low_mark : (f : ℕ) → f < 16 → fence_mark f ≡ fence_byte f
 low_mark f l = simp (ne_eqb f 254 (omega arith), ne_eqb f 255 (omega arith))
 
-mark_names : (f : ℕ) → f < 16 → fence_named (fence_mark f) ≡ Some f
+number_of_mark : (f : ℕ) → f < 16 → fence_named (fence_mark f) ≡ Some f
 unfolding fence_named
-mark_names f l = ap (λ (b : ℕ). fence_in (byte_is b)) (low_mark f l) ∙ ap fence_in (fence_read f l)
+number_of_mark f l = ap (λ (b : ℕ). fence_in (byte_is b)) (low_mark f l) ∙ ap fence_in (fence_read f l)
 
-mark_named : (b n : ℕ) → fence_named b ≡ Some n → n < 16 → fence_mark n ≡ b
+mark_of_number : (b n : ℕ) → fence_named b ≡ Some n → n < 16 → fence_mark n ≡ b
 unfolding fence_named
-mark_named b n e l = by (byte_is b) refl e
+mark_of_number b n e l = by (byte_is b) refl e
   where
     by : (x : Option Operation) → byte_is b ≡ x → fence_in x ≡ Some n → fence_mark n ≡ b
     by (Some (Operation.Fence m)) is e =
@@ -66,12 +66,12 @@ unfolding fence_named byte_is
 dash_no_fence = refl
 
 no_dash : (f : ℕ) → f < 16 → fence_mark f ≡ 45 → ⊥
-no_dash f l e = none_some (sym dash_no_fence ∙ ap fence_named (sym e) ∙ mark_names f l)
+no_dash f l e = none_some (sym dash_no_fence ∙ ap fence_named (sym e) ∙ number_of_mark f l)
 
 same_mark : {marks : ℕ} (f g : ℕ) → marks ≤ 16 → Markable marks f → Markable marks g → fence_mark f ≡ fence_mark g → f ≡ g
 unfolding Markable
 same_mark f g few (inl l) (inl m) e =
-    some_same (sym (mark_names f (omega arith)) ∙ ap fence_named e ∙ mark_names g (omega arith))
+    some_same (sym (number_of_mark f (omega arith)) ∙ ap fence_named e ∙ number_of_mark g (omega arith))
 same_mark f g few (inl l) (inr is) e = absurd (no_dash f (omega arith) (e ∙ ap fence_mark is))
 same_mark f g few (inr is) (inl m) e = absurd (no_dash g (omega arith) (sym e ∙ ap fence_mark is))
 same_mark f g few (inr is) (inr also) e = is ∙ sym also
@@ -137,7 +137,7 @@ module _ {marks : ℕ} {t : List ℕ} {at : ℕ} where
   module _ (few : marks ≤ 16) (l : at < length t) where
     pub mark_fence : {n : ℕ} → fence_named (get_or t at 0) ≡ Some n → n < marks → Finds (MarkPart marks) t at (took (at + 1) n)
     unfolding Markable
-    mark_fence {n} is low = here l n (inl low) (mark_named (get_or t at 0) n is (omega arith))
+    mark_fence {n} is low = here l n (inl low) (mark_of_number (get_or t at 0) n is (omega arith))
 
     module _ (other : get_or t at 0 ≡ 45 → ⊥) where
       -- the byte would name each fence that could be told here
@@ -146,7 +146,7 @@ module _ {marks : ℕ} {t : List ℕ} {at : ℕ} where
       told_none free = nowhere none
         where
           none : (f : ℕ) → Markable marks f → at < length t → get_or t at 0 ≡ fence_mark f → ⊥
-          none f (inl low) h e = free f low (ap fence_named e ∙ mark_names f (omega arith))
+          none f (inl low) h e = free f low (ap fence_named e ∙ number_of_mark f (omega arith))
           none f (inr i) h e = other (e ∙ ap fence_mark i)
 
       pub mark_nothing : fence_named (get_or t at 0) ≡ None → Finds (MarkPart marks) t at (stopped at)
