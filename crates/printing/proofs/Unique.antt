@@ -1,10 +1,14 @@
--- The contract of each public function allows one place and one final buffer: it is an equation for each of the two. Assumes nothing.
+-- The contract of each public function allows one text, or one place and one final buffer: it is an equation for each. Assumes nothing.
 use Prim.Native.Nat.{ℕ}
 use mathlib.Core.Path.{◌≡◌, sym, ◌∙◌}
 use mathlib.Core.List.{List}
+use lib.ListN.{take}
 use Rattle.printing.specs.Decimal.{decimal}
 use Rattle.printing.specs.Name.{unfilled}
 use Rattle.printing.specs.Printing.{Prints}
+
+pub text_one : (buffer : List ℕ) (at : ℕ) {t t' : List ℕ} → t ≡ take at buffer → t' ≡ take at buffer → t ≡ t'
+text_one buffer at p q = p ∙ sym q
 
 pub put_one : (buffer text : List ℕ) (at : ℕ) {after after' : List ℕ} {r r' : ℕ} → Prints buffer after at r text → Prints buffer after' at r' text
     → (r ≡ r') × (after ≡ after')

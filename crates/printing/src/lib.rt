@@ -1,22 +1,17 @@
-// Texts put into a buffer one behind another: bytes, names and numbers in decimal. A text that does not fit is not put, and the place that is
-// told then is past the end, where nothing fits again: so puts are chained, and looked at once at the end.
+// Texts put behind one another: bytes, names and numbers in decimal. A text that does not fit is not put, and the place where the text in the
+// making ends is then past the end of its bytes, where nothing fits again: so puts stand one behind another, and are looked at once at the end.
 #![tactic(auto)]
 
-ghost use Rattle.std.specs.Prelude.{◌≡◌, length};
+ghost use Rattle.std.specs.Prelude.{◌≡◌, length, take};
 ghost use Rattle.printing.specs.Decimal.{decimal};
 ghost use Rattle.printing.specs.Name.{unfilled};
 ghost use Rattle.printing.specs.Printing.{Prints};
 
-// Puts a text behind the first `at` bytes, and tells where it ends.
-pub fn put(buffer: &mut [u8], at: usize, text: &[u8]) -> usize
-    ensures { Prints buffer.old buffer.new at result text.now }
-{
-    if buffer.len() < at || buffer.len() - at < text.len() {
-        return buffer.len() + 1;
-    }
-    let end = at + text.len();
-    buffer[at..end].copy_from_slice(text);
-    end
+// A text in the making: the bytes that it is put into, and the place where it ends so far.
+#[derive(Drop)]
+pub struct Page<'a> {
+    pub bytes: &'a mut [u8],
+    pub at: usize,
 }
 
 // How many bytes stand before the first zero.
@@ -26,26 +21,51 @@ fn name_length(name: &[u8]) -> usize
     name.iter().position(|b| *b == 0).unwrap_or(name.len())
 }
 
-// Puts a name, which zeros may fill up.
-pub fn put_name(buffer: &mut [u8], at: usize, name: &[u8]) -> usize
-    ensures { Prints buffer.old buffer.new at result (unfilled name.now) }
-{
-    let n = name_length(name);
-    put(buffer, at, &name[..n])
-}
-
-// Puts a number in decimal. Its digits, at most twenty, are made from the last to the first.
-pub fn put_decimal(buffer: &mut [u8], at: usize, number: u64) -> usize
-    ensures { Prints buffer.old buffer.new at result (decimal number) }
-{
-    let mut digits = [0u8; 20];
-    let mut first = 19;
-    let mut left = number;
-    while 10 <= left {
-        digits[first] = b'0' + (left % 10) as u8;
-        first -= 1;
-        left /= 10;
+impl Page<'_> {
+    // The text so far, or all the bytes where a text did not fit.
+    pub fn text(&self) -> &[u8]
+        ensures { result.now ≡ take self.now.at self.now.bytes.now }
+    {
+        &self.bytes[..self.at.min(self.bytes.len())]
     }
-    digits[first] = b'0' + left as u8;
-    put(buffer, at, &digits[first..])
+
+    // Puts a text behind the first bytes.
+    pub fn put(&mut self, text: &[u8])
+        ensures same_reference { self.new.bytes.ghost_name ≡ self.old.bytes.ghost_name }
+        ensures prints { Prints self.old.bytes.now self.new.bytes.now self.old.at self.new.at text.now }
+    {
+        if self.bytes.len() < self.at || self.bytes.len() - self.at < text.len() {
+            self.at = self.bytes.len() + 1;
+            return;
+        }
+        let end = self.at + text.len();
+        self.bytes[self.at..end].copy_from_slice(text);
+        self.at = end;
+    }
+
+    // Puts a name, which zeros may fill up.
+    pub fn put_name(&mut self, name: &[u8])
+        ensures same_reference { self.new.bytes.ghost_name ≡ self.old.bytes.ghost_name }
+        ensures prints { Prints self.old.bytes.now self.new.bytes.now self.old.at self.new.at (unfilled name.now) }
+    {
+        let n = name_length(name);
+        self.put(&name[..n])
+    }
+
+    // Puts a number in decimal. Its digits, at most twenty, are made from the last to the first.
+    pub fn put_decimal(&mut self, number: u64)
+        ensures same_reference { self.new.bytes.ghost_name ≡ self.old.bytes.ghost_name }
+        ensures prints { Prints self.old.bytes.now self.new.bytes.now self.old.at self.new.at (decimal number) }
+    {
+        let mut digits = [0u8; 20];
+        let mut first = 19;
+        let mut left = number;
+        while 10 <= left {
+            digits[first] = b'0' + (left % 10) as u8;
+            first -= 1;
+            left /= 10;
+        }
+        digits[first] = b'0' + left as u8;
+        self.put(&digits[first..])
+    }
 }

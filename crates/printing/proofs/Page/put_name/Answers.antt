@@ -6,7 +6,7 @@ use lib.ListN.{take}
 use lib.Seq.{length-take-le}
 use Rattle.printing.proofs.Copying.{prints_is}
 use Rattle.printing.proofs.Names.{unfilled_front, unfilled_short}
-use Rattle.printing.proofs.put_name.Goals as goal
+use Rattle.printing.proofs.Page.put_name.Goals as goal
 
 pub slice_bounds-put-end : goal.slice_bounds-put-end
 slice_bounds-put-end c =
@@ -14,7 +14,7 @@ slice_bounds-put-end c =
     let name = c.args.name.now in
     sym (length-take-le n.result name (omega (arith, n.ensures, unfilled_short name)))
 
-pub returns : goal.returns
-returns c =
+pub returns-clause-prints : goal.returns-clause-prints
+returns-clause-prints c =
     let name = c.args.name.now in
-    prints_is (ap (λ (k : ℕ). take k name) c.name_length-n.ensures ∙ unfilled_front name) c.put.ensures
+    prints_is (ap (λ (k : ℕ). take k name) c.name_length-n.ensures ∙ unfilled_front name) c.put.ensures.prints
