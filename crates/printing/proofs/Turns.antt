@@ -6,19 +6,19 @@ use native.Mathlib.Numerals.{add-one}
 use native.Mathlib.Nat.{suc-mul}
 use native.Mathlib.Omega.{arith}
 use lib.ListN.{length, length-append}
-use Rattle.printing.specs.declared.Page.{Page}
 use Rattle.printing.specs.Putting.{Put}
 use Rattle.printing.specs.Turns.{in_turn}
 use Rattle.printing.proofs.Putting.{put_none, put_is, put_then}
 
 -- texts put so far, and one more
-pub put_no_turn : {p : Page} (text : ℕ → List ℕ) → Put p p (in_turn text 0)
+pub put_no_turn : {b : List ℕ} {at : ℕ} (text : ℕ → List ℕ) → Put b b at at (in_turn text 0)
 unfolding in_turn
 put_no_turn text = put_none
 
-pub put_one_more : {p q r : Page} (text : ℕ → List ℕ) (n : ℕ) → Put p q (in_turn text n) → Put q r (text n) → Put p r (in_turn text (n + 1))
+pub put_one_more : {a b c : List ℕ} {at r t : ℕ} (text : ℕ → List ℕ) (n : ℕ) → Put a b at r (in_turn text n) → Put b c r t (text n)
+    → Put a c at t (in_turn text (n + 1))
 unfolding in_turn
-put_one_more text n g h = put_is (sym (ap (in_turn text) (add-one n))) (put_then g h)
+put_one_more text n p q = put_is (sym (ap (in_turn text) (add-one n))) (put_then p q)
 
 -- texts that agree below n
 pub in_turn_same : (text other : ℕ → List ℕ) (n : ℕ) → ((i : ℕ) → i < n → text i ≡ other i) → in_turn text n ≡ in_turn other n

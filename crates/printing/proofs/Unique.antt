@@ -7,6 +7,10 @@ use Rattle.printing.specs.Decimal.{decimal}
 use Rattle.printing.specs.Name.{unfilled}
 use Rattle.printing.specs.Printing.{Prints}
 
+pub new_one : (buffer : List ℕ) {bytes bytes' : List ℕ} {at at' : ℕ} → bytes ≡ buffer → bytes' ≡ buffer → at ≡ 0 → at' ≡ 0
+    → (at ≡ at') × (bytes ≡ bytes')
+new_one buffer p q n m = (n ∙ sym m, p ∙ sym q)
+
 pub text_one : (buffer : List ℕ) (at : ℕ) {t t' : List ℕ} → t ≡ take at buffer → t' ≡ take at buffer → t ≡ t'
 text_one buffer at p q = p ∙ sym q
 

@@ -2,9 +2,13 @@
 use Rattle.std.specs.Prelude.{ℕ, ◌+◌, ◌≤◌, ◌<◌, ◌≡◌, List, ◌++◌, length, take}
 use Rattle.printing.specs.declared.Page.{Page}
 
--- behind what is on the page stands the text, up to its new end; where it does not fit, that is past the end of the bytes
-pub record Put (before after : Page) (text : List ℕ) : Type 0 where
-  pub size : length after.bytes.now ≡ length before.bytes.now
-  pub place : before.at + length text ≤ length before.bytes.now → after.at ≡ before.at + length text
-  pub bytes : before.at + length text ≤ length before.bytes.now → take after.at after.bytes.now ≡ take before.at before.bytes.now ++ text
-  pub past : length before.bytes.now < before.at + length text → length before.bytes.now < after.at
+-- behind the first `at` bytes stands the text, up to r; where it does not fit, r is past the end
+pub record Put (before after : List ℕ) (at r : ℕ) (text : List ℕ) : Type 0 where
+  pub size : length after ≡ length before
+  pub place : at + length text ≤ length before → r ≡ at + length text
+  pub bytes : at + length text ≤ length before → take r after ≡ take at before ++ text
+  pub past : length before < at + length text → length before < r
+
+-- the same of a page
+abbrev pub PutOn : Page → Page → List ℕ → Type 0
+PutOn before after text = Put before.bytes.now after.bytes.now before.at after.at text

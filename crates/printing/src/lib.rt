@@ -21,7 +21,16 @@ fn name_length(name: &[u8]) -> usize
     name.iter().position(|b| *b == 0).unwrap_or(name.len())
 }
 
-impl Page<'_> {
+impl<'a> Page<'a> {
+    // A page with nothing on it.
+    pub fn new(bytes: &'a mut [u8]) -> Page<'a>
+        ensures same_reference { result.bytes.ghost_name ≡ bytes.entry.ghost_name }
+        ensures bytes_kept { result.bytes.now ≡ bytes.old }
+        ensures nothing_put { result.at ≡ 0 }
+    {
+        Page { bytes, at: 0 }
+    }
+
     // The text so far, or all the bytes where a text did not fit.
     pub fn text(&self) -> &[u8]
         ensures { result.now ≡ take self.now.at self.now.bytes.now }

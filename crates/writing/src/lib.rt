@@ -10,14 +10,16 @@ ghost use Rattle.writing.specs.Calls.{reading_given, back_given};
 
 use answers::Answer;
 use models::model::{Model, Reading};
+use printing::Page;
 
 // The model's text in the buffer, or nothing where it does not fit.
 pub fn write(model: Model, out: &mut [u8]) -> Answer
     ensures { Delivers (gives (text_of (described model)) 0 0) out.old result out.new }
 {
     let mut buf = [0u8; 1024];
-    let n = parts::put_model(&mut buf, model);
-    answers::write_out(&buf[..n], 0, 0, out)
+    let mut page = Page::new(&mut buf);
+    parts::put_model(&mut page, model);
+    answers::write_out(page.text(), 0, 0, out)
 }
 
 // Writes the text of a model that was read or made, or tells why there is none.

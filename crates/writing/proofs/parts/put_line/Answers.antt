@@ -5,5 +5,5 @@ use Rattle.writing.proofs.parts.put_line.Goals as goal
 pub returns : goal.returns
 returns c =
     put_then
-    (prints_put c.put-name_at.ensures)
-    (put_then (prints_put c.put_name-end.ensures) (put_then (prints_put c.put-table_at.ensures) c.put_table.ensures))
+    (prints_put c.put.ensures.prints)
+    (put_then (prints_put c.put_name.ensures.prints) (put_then (prints_put c.put-2.ensures.prints) c.put_table.ensures))

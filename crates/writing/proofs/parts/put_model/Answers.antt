@@ -4,4 +4,4 @@ use Rattle.writing.proofs.parts.put_model.Goals as goal
 
 pub returns : goal.returns
 returns c =
-    put_then c.put_line-fences_at.ensures (put_then c.put_fences-end.ensures (prints_put c.put.ensures))
+    put_then c.put_line.ensures (put_then c.put_fences.ensures (prints_put c.put.ensures.prints))

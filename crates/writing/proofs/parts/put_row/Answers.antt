@@ -10,4 +10,4 @@ returns c =
     (λ i.
     c.cell_letter.ensures i ∷ c.cell_letter-2.ensures i ∷ c.cell_letter-3.ensures i
     ∷ c.cell_letter-4.ensures i ∷ e ∷ [])
-    (prints_put c.put.ensures)
+    (prints_put c.put.ensures.prints)

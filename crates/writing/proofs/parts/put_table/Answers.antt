@@ -5,5 +5,5 @@ use Rattle.writing.proofs.parts.put_table.Goals as goal
 pub returns : goal.returns
 returns c =
     put_then
-    (put_then (put_then c.put_row-second.ensures c.put_row-third.ensures) c.put_row-fourth.ensures)
-    c.put_row.ensures
+    (put_then (put_then c.put_row.ensures c.put_row-2.ensures) c.put_row-3.ensures)
+    c.put_row-4.ensures
