@@ -7,7 +7,7 @@ ghost use Rattle.ground.specs.Bytes.{bytes};
 ghost use Rattle.answers.specs.Answer.{numbers_of};
 ghost use Rattle.answers.specs.Given.{gives, Delivers};
 ghost use Rattle.printing.specs.Decimal.{decimal};
-ghost use Rattle.printing.specs.Putting.{Put};
+ghost use Rattle.printing.specs.Putting.{PutOn};
 ghost use Rattle.io.specs.Counts.{IsPrefixLen};
 ghost use Rattle.cases.specs.Buffer.{untouched, Repeats};
 ghost use Rattle.cases.specs.Printed.{with_blanks};
@@ -15,6 +15,7 @@ ghost use Rattle.cases.specs.Printed.{with_blanks};
 pub mod fields;
 
 use answers::Answer;
+use printing::Page;
 
 // The first n bytes, or all of them where there are fewer.
 pub fn front(bytes: &[u8], n: usize) -> &[u8]
@@ -58,21 +59,21 @@ pub fn kept(buffer: &[u8], from: usize) -> bool
 }
 
 // A number behind a blank.
-fn put_next(line: &mut [u8], at: usize, number: u64) -> usize
-    ensures { Put line.old line.new at result (bytes " " ++ decimal number) }
+fn put_next(page: &mut Page, number: u64)
+    ensures { PutOn page.old page.new (bytes " " ++ decimal number) }
 {
-    let number_at = printing::put(line, at, b" ");
-    printing::put_decimal(line, number_at, number)
+    page.put(b" ");
+    page.put_decimal(number);
 }
 
-fn put_five(line: &mut [u8], a: u64, b: u64, c: u64, d: u64, e: u64) -> usize
-    ensures { Put line.old line.new 0 result (with_blanks (a ∷ b ∷ c ∷ d ∷ e ∷ [])) }
+fn put_five(page: &mut Page, a: u64, b: u64, c: u64, d: u64, e: u64)
+    ensures { PutOn page.old page.new (with_blanks (a ∷ b ∷ c ∷ d ∷ e ∷ [])) }
 {
-    let second = printing::put_decimal(line, 0, a);
-    let third = put_next(line, second, b);
-    let fourth = put_next(line, third, c);
-    let fifth = put_next(line, fourth, d);
-    put_next(line, fifth, e)
+    page.put_decimal(a);
+    put_next(page, b);
+    put_next(page, c);
+    put_next(page, d);
+    put_next(page, e);
 }
 
 // Five numbers have at most twenty digits each, and four blanks stand between.
@@ -80,8 +81,9 @@ fn five_text(a: u64, b: u64, c: u64, d: u64, e: u64, out: &mut [u8]) -> Answer
     ensures { Delivers (gives (with_blanks (a ∷ b ∷ c ∷ d ∷ e ∷ [])) 0 0) out.old result out.new }
 {
     let mut line = [0u8; 104];
-    let n = put_five(&mut line, a, b, c, d, e);
-    answers::write_out(&line[..n], 0, 0, out)
+    let mut page = Page::new(&mut line);
+    put_five(&mut page, a, b, c, d, e);
+    answers::write_out(page.text(), 0, 0, out)
 }
 
 // The five numbers of an answer, with blanks between: number, place, written, fences, state.

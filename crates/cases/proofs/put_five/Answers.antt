@@ -4,6 +4,6 @@ use Rattle.cases.proofs.put_five.Goals as goal
 
 pub returns : goal.returns
 returns c =
-    put_then (prints_put c.put_decimal-second.ensures)
-    (put_then c.put_next-third.ensures
-    (put_then c.put_next-fourth.ensures (put_then c.put_next-fifth.ensures (put_then c.put_next.ensures put_none))))
+    put_then (prints_put c.put_decimal.ensures.prints)
+    (put_then c.put_next.ensures
+    (put_then c.put_next-2.ensures (put_then c.put_next-3.ensures (put_then c.put_next-4.ensures put_none))))

@@ -4,4 +4,4 @@ use Rattle.cases.proofs.put_next.Goals as goal
 
 pub returns : goal.returns
 returns c =
-    put_then (prints_put c.put-number_at.ensures) (prints_put c.put_decimal.ensures)
+    put_then (prints_put c.put.ensures.prints) (prints_put c.put_decimal.ensures.prints)
