@@ -1,23 +1,22 @@
 -- What is listed once the machine is made: each outcome is what the rule's machine comes to, and a machine that is made is within the limits.
 -- Assumes nothing.
-use Rattle.std.proofs.Common.{Option, Some, Ok, Err}
+use Rattle.std.proofs.Common.{Some, Ok, Err}
 use Prim.Native.Nat.{ℕ, ◌+◌, ◌*◌, ◌%◌, ◌/◌, ◌^◌, ◌≤◌, ◌<◌}
-use mathlib.Core.Path.{◌≡◌, sym, ap, ap₂, subst, ◌∙◌}
+use mathlib.Core.Path.{◌≡◌, sym, ap₂, subst, ◌∙◌}
 use mathlib.Core.Bool.{Bool, true, false, cond}
 use mathlib.Core.List.{List}
 use native.Mathlib.Omega.{arith}
 use lib.Dec.{eqb}
-use lib.ListN.{length}
+use lib.ListN.{length, take}
 use Rattle.machine.specs.Outcome.{Outcome}
 use Rattle.ground.specs.Bytes.{at}
 use Rattle.answers.specs.declared.Refusal.{Refusal}
 use Rattle.answers.specs.Answer.{Answer}
-use Rattle.answers.specs.Answer.{Verdict}
 use Rattle.answers.specs.Answer.{number_of, place_of}
 use Rattle.answers.specs.Given.{gives, refuses, Delivers, Answers}
 use Rattle.operations.specs.Alphabet.{letters_with, stride}
 use Rattle.rule.specs.declared.way.Way.{Way}
-use Rattle.printing.specs.Putting.{Put, Fronts}
+use Rattle.printing.specs.Putting.{Put}
 use Rattle.printing.proofs.Names.{unfilled_short}
 use Rattle.printing.proofs.Putting.{put_fronts}
 use Rattle.shims.specs.declared.Models.{Models}
@@ -111,22 +110,17 @@ listable_limited m x rows output fences u t l = record {
   few_fences = l.few_fences;
 }
 
--- so it stands in front of a buffer that holds 67,261 bytes
-pub listing_fronts : (m : Models) (x : Machine) (rows output : List ℕ) (fences : ℕ) {before after : List ℕ} {n : ℕ}
-    → length m.upstream.name.bytes ≡ 16 → length m.target.name.bytes ≡ 16 → Listable x rows output fences
-    → Put before after 0 n (listing (made_listing m x rows output fences)) → 67261 ≤ length before
-    → Fronts after n (listing (made_listing m x rows output fences))
-listing_fronts m x rows output fences u t l p h =
-    put_fronts p (omega (arith, listing-length _ (listable_limited m x rows output fences u t l)))
+-- so it is all that is on a page with room for 67,261 bytes
+pub listing_fronts : (m : Models) (x : Machine) (rows output : List ℕ) (fences : ℕ) {bytes before after : List ℕ} {at n : ℕ}
+    → length m.upstream.name.bytes ≡ 16 → length m.target.name.bytes ≡ 16 → Listable x rows output fences → before ≡ bytes → at ≡ 0
+    → Put before after at n (listing (made_listing m x rows output fences)) → 67261 ≤ length bytes
+    → take n after ≡ listing (made_listing m x rows output fences)
+listing_fronts m x rows output fences u t l same none p h =
+    put_fronts same none p (omega (arith, listing-length _ (listable_limited m x rows output fences u t l)))
 
--- and the line of a refusal in front of one that holds 53
-pub refused_fronts : (why : Refusal) {number place : ℕ} {before after : List ℕ} {n : ℕ} → number < 2 ^ 64 → place < 2 ^ 64
-    → number ≡ number_of why → place ≡ place_of why → Put before after 0 n (refused_at number place) → 53 ≤ length before
-    → Fronts after n (refusal_line why)
-refused_fronts why {number} {place} small near is at p h =
-    let line = put_fronts p (omega (arith, refused-length number place (omega arith) (omega arith))) in
-    record {
-      inside = line.inside;
-      count = line.count;
-      bytes = line.bytes ∙ ap₂ refused_at is at;
-    }
+-- and the line of a refusal on one with room for 53
+pub refused_fronts : (why : Refusal) {number place : ℕ} {bytes before after : List ℕ} {at n : ℕ} → number < 2 ^ 64 → place < 2 ^ 64
+    → number ≡ number_of why → place ≡ place_of why → before ≡ bytes → at ≡ 0 → Put before after at n (refused_at number place) → 53 ≤ length bytes
+    → take n after ≡ refusal_line why
+refused_fronts why {number} {place} small near is at same none p h =
+    put_fronts same none p (omega (arith, refused-length number place (omega arith) (omega arith))) ∙ ap₂ refused_at is at

@@ -12,6 +12,7 @@ ghost use Rattle.listed.specs.inner.Making.{made_listing, made_given, MadeListab
 use answers::{Answer, Refusal};
 use machine::machine::{Machine, Outcome};
 use operations::alphabet::WORDS;
+use printing::Page;
 use rule::way::Way;
 use shims::Models;
 
@@ -20,8 +21,9 @@ pub fn refusal_line(why: Refusal, out: &mut [u8]) -> Answer
     ensures { Delivers (gives (refusal_line why) 0 0) out.old result out.new }
 {
     let mut line = [0u8; 53];
-    let n = print::put_refusal(&mut line, why.number(), why.place());
-    answers::write_out(&line[..n], 0, 0, out)
+    let mut page = Page::new(&mut line);
+    print::put_refusal(&mut page, why.number(), why.place());
+    answers::write_out(page.text(), 0, 0, out)
 }
 
 // Writes a listing. It owns the buffer that the listing is put into, so that a refusal writes nothing.
@@ -38,8 +40,9 @@ fn write_listing<'a>(
         out.old result out.new }
 {
     let mut text = [0u8; 73728];
-    let n = print::put_listing(&mut text, models, machine, rows, output, fences);
-    answers::write_out(&text[..n], fences, 0, out)
+    let mut page = Page::new(&mut text);
+    print::put_listing(&mut page, models, machine, rows, output, fences);
+    answers::write_out(page.text(), fences, 0, out)
 }
 
 // Writes the listing of the machine that was made, or answers why there is none.

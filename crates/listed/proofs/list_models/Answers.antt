@@ -6,7 +6,7 @@ use lib.ListN.{replicate, length-replicate}
 use lib.Seq.{length-take-le}
 use Rattle.answers.specs.Given.{refuses}
 use Rattle.answers.proofs.Given.{refusal_delivered, answers_by}
-use Rattle.listed.specs.Parts.{ModelsListed, halts, runs}
+use Rattle.listed.specs.Parts.{halts, runs}
 use Rattle.listed.proofs.Direct.{run_refused, run_taken}
 use Rattle.listed.proofs.list_models.Goals as goal
 

@@ -1,6 +1,6 @@
 -- `refusal_line` meets its contract: no refusal's line is too long for the buffer of its own. Assumes nothing.
 use Prim.Native.Nat.{ℕ}
-use mathlib.Core.Path.{ap}
+use mathlib.Core.Path.{ap, ◌∙◌}
 use mathlib.Core.List.{List}
 use native.Mathlib.Omega.{arith}
 use Rattle.answers.specs.Given.{gives}
@@ -8,15 +8,11 @@ use Rattle.answers.proofs.Given.{delivers_as}
 use Rattle.listed.proofs.Made.{refused_fronts}
 use Rattle.listed.proofs.refusal_line.Goals as goal
 
-pub slice_bounds-line-end : goal.slice_bounds-line-end
-slice_bounds-line-end c =
-    (refused_fronts c.args.why (omega arith) (omega arith) c.number.ensures c.place.ensures c.put_refusal-n.ensures (omega arith)).inside
-
-pub slice_bounds-write_out-end : goal.slice_bounds-write_out-end
-slice_bounds-write_out-end c =
-    (refused_fronts c.args.why (omega arith) (omega arith) c.number.ensures c.place.ensures c.put_refusal-n.ensures (omega arith)).count
-
 pub returns : goal.returns
 returns c =
-    let line = refused_fronts c.args.why (omega arith) (omega arith) c.number.ensures c.place.ensures c.put_refusal-n.ensures (omega arith) in
-    delivers_as (ap (λ (t : List ℕ). gives t 0 0) line.bytes) c.write_out.ensures
+    let new = c.new-page.ensures in
+    let line =
+    c.text.ensures
+    ∙ refused_fronts c.args.why (omega arith) (omega arith) c.number.ensures c.place.ensures new.bytes_kept new.nothing_put
+    c.put_refusal.ensures (omega arith) in
+    delivers_as (ap (λ (t : List ℕ). gives t 0 0) line) c.write_out.ensures

@@ -5,7 +5,7 @@ use Rattle.listed.proofs.print.put_names.Goals as goal
 pub returns : goal.returns
 returns c =
     put_then
-    (prints_put c.put_name-upstream_end.ensures)
+    (prints_put c.put_name.ensures.prints)
     (put_then
-    (prints_put c.put-target_at.ensures)
-    (put_then (prints_put c.put_name-target_end.ensures) (put_then (prints_put c.put-way_at.ensures) c.put_way.ensures)))
+    (prints_put c.put.ensures.prints)
+    (put_then (prints_put c.put_name-2.ensures.prints) (put_then (prints_put c.put-2.ensures.prints) c.put_way.ensures)))

@@ -4,4 +4,4 @@ use Rattle.listed.proofs.print.put_number_line.Goals as goal
 
 pub returns : goal.returns
 returns c =
-    put_then (prints_put c.put-digits_at.ensures) (put_then (prints_put c.put_decimal-end.ensures) (prints_put c.put.ensures))
+    put_then (prints_put c.put.ensures.prints) (put_then (prints_put c.put_decimal.ensures.prints) (prints_put c.put-2.ensures.prints))

@@ -4,4 +4,4 @@ use Rattle.listed.proofs.print.put_out.Goals as goal
 
 pub returns : goal.returns
 returns c =
-    put_then (prints_put c.put-output_at.ensures) (put_then (prints_put c.put-end.ensures) (prints_put c.put.ensures))
+    put_then (prints_put c.put.ensures.prints) (put_then (prints_put c.put-2.ensures.prints) (prints_put c.put-3.ensures.prints))

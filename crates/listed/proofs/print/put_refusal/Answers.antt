@@ -4,4 +4,4 @@ use Rattle.listed.proofs.print.put_refusal.Goals as goal
 
 pub returns : goal.returns
 returns c =
-    put_then (prints_put c.put-number_at.ensures) (put_then (prints_put c.put_decimal-end.ensures) c.put_number_line.ensures)
+    put_then (prints_put c.put.ensures.prints) (put_then (prints_put c.put_decimal.ensures.prints) c.put_number_line.ensures)

@@ -18,4 +18,4 @@ pub loop-letter-preserved : goal.loop-letter-preserved
 loop-letter-preserved c =
     let l = c.loop-letter in
     let a = c.args in
-    put_one_more (steps a.state a.rows.now) l.letter l.invariant c.put_step-here.ensures
+    put_one_more (steps a.state a.rows.now) l.letter l.invariant c.put_step.ensures

@@ -10,4 +10,4 @@ returns c =
     put_is
     (step_text a.state a.letter a.word _ _ _ c.letter_byte.ensures (c.fence_mark.ensures ∙ mark_word a.word)
     c.next_of.ensures)
-    (put_then (prints_put c.put_decimal-middle_at.ensures) (put_then (prints_put c.put-next_at.ensures) c.put_number_line.ensures))
+    (put_then (prints_put c.put_decimal.ensures.prints) (put_then (prints_put c.put.ensures.prints) c.put_number_line.ensures))

@@ -9,8 +9,8 @@ use Rattle.listed.proofs.print.put_way.Goals as goal
 
 pub returns-in-Full : goal.returns-in-Full
 returns-in-Full c =
-    put_is (ap (λ (w : Way). way_word w ++ bytes "\n") (sym c.in-Full.is)) (prints_put c.put.ensures)
+    put_is (ap (λ (w : Way). way_word w ++ bytes "\n") (sym c.in-Full.is)) (prints_put c.put.ensures.prints)
 
 pub returns-in-Sparing : goal.returns-in-Sparing
 returns-in-Sparing c =
-    put_is (ap (λ (w : Way). way_word w ++ bytes "\n") (sym c.in-Sparing.is)) (prints_put c.put-in-Sparing.ensures)
+    put_is (ap (λ (w : Way). way_word w ++ bytes "\n") (sym c.in-Sparing.is)) (prints_put c.put-in-Sparing.ensures.prints)
