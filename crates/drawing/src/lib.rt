@@ -14,6 +14,7 @@ use answers::Answer;
 use image::machine::Header;
 use image::reader;
 use operations::alphabet::{STRIDE, WORDS};
+use printing::Page;
 
 // Room for any drawing.
 const ROOM: usize = 135_719;
@@ -24,8 +25,9 @@ fn write_drawing(h: Header, rows: &[u16], out: &mut [u8]) -> Answer
     ensures { Delivers (gives (drawing_of h rows.now) 0 0) out.old result out.new }
 {
     let mut text = [0u8; ROOM];
-    let n = print::put_drawing(&mut text, h, rows);
-    answers::write_out(&text[..n], 0, 0, out)
+    let mut page = Page::new(&mut text);
+    print::put_drawing(&mut page, h, rows);
+    answers::write_out(page.text(), 0, 0, out)
 }
 
 // The drawing of an image, or nothing where the image is refused or its drawing does not fit.

@@ -1,130 +1,124 @@
-// The lines of a drawing, put one behind another into a buffer.
+// The lines of a drawing, put on a page one behind another.
 ghost use Rattle.std.specs.Prelude.{◌+◌, ◌*◌, ◌≤◌, ◌++◌, length};
 ghost use Rattle.ground.specs.Bytes.{bytes};
 ghost use Rattle.operations.specs.Alphabet.{stride};
 ghost use Rattle.printing.specs.Decimal.{decimal};
-ghost use Rattle.printing.specs.Putting.{Put};
+ghost use Rattle.printing.specs.Putting.{PutOn};
 ghost use Rattle.printing.specs.Turns.{in_turn};
 ghost use Rattle.drawing.specs.Drawing.{way_word, label_line, node_line, leads_to, edge_line, state_edges, drawing_of};
 
 use image::machine::Header;
 use operations::alphabet;
 use operations::alphabet::{ACCESSES, STRIDE};
+use printing::Page;
 
-fn put_way(buffer: &mut [u8], at: usize, way: u8) -> usize
-    ensures { Put buffer.old buffer.new at result (way_word way) }
+fn put_way(page: &mut Page, way: u8)
+    ensures { PutOn page.old page.new (way_word way) }
 {
     if way == 0 {
-        printing::put(buffer, at, b"sparing")
+        page.put(b"sparing");
     } else {
-        printing::put(buffer, at, b"full")
+        page.put(b"full");
     }
 }
 
 // The label's two counts, to the end of its line.
-fn put_counts(buffer: &mut [u8], at: usize, ups: u8, targets: u8) -> usize
-    ensures { Put buffer.old buffer.new at result
+fn put_counts(page: &mut Page, ups: u8, targets: u8)
+    ensures { PutOn page.old page.new
         (bytes " " ++ (decimal ups ++ (bytes " " ++ (decimal targets ++ bytes "\";\n")))) }
 {
-    let ups_at = printing::put(buffer, at, b" ");
-    let ups_end = printing::put_decimal(buffer, ups_at, ups as u64);
-    let targets_at = printing::put(buffer, ups_end, b" ");
-    let targets_end = printing::put_decimal(buffer, targets_at, targets as u64);
-    printing::put(buffer, targets_end, b"\";\n")
+    page.put(b" ");
+    page.put_decimal(ups as u64);
+    page.put(b" ");
+    page.put_decimal(targets as u64);
+    page.put(b"\";\n");
 }
 
-fn put_label(buffer: &mut [u8], at: usize, h: Header) -> usize
-    ensures { Put buffer.old buffer.new at result (label_line h) }
+fn put_label(page: &mut Page, h: Header)
+    ensures { PutOn page.old page.new (label_line h) }
 {
-    let upstream_at = printing::put(buffer, at, b"label=\"");
-    let upstream_end = printing::put_name(buffer, upstream_at, &h.upstream);
-    let target_at = printing::put(buffer, upstream_end, b" ");
-    let target_end = printing::put_name(buffer, target_at, &h.target);
-    let way_at = printing::put(buffer, target_end, b" ");
-    let way_end = put_way(buffer, way_at, h.way);
-    put_counts(buffer, way_end, h.ups, h.targets)
+    page.put(b"label=\"");
+    page.put_name(&h.upstream);
+    page.put(b" ");
+    page.put_name(&h.target);
+    page.put(b" ");
+    put_way(page, h.way);
+    put_counts(page, h.ups, h.targets);
 }
 
-fn put_node(buffer: &mut [u8], at: usize, state: usize) -> usize
-    ensures { Put buffer.old buffer.new at result (node_line state) }
+fn put_node(page: &mut Page, state: usize)
+    ensures { PutOn page.old page.new (node_line state) }
 {
-    let end = printing::put_decimal(buffer, at, state as u64);
-    printing::put(buffer, end, b";\n")
+    page.put_decimal(state as u64);
+    page.put(b";\n");
 }
 
 // A node for each state.
-fn put_nodes(buffer: &mut [u8], at: usize, states: usize) -> usize
-    ensures { Put buffer.old buffer.new at result (in_turn node_line states) }
+fn put_nodes(page: &mut Page, states: usize)
+    ensures { PutOn page.old page.new (in_turn node_line states) }
 {
-    let mut here = at;
     for state in 0..states {
-        here = put_node(buffer, here, state);
+        put_node(page, state);
     }
-    here
 }
 
 // Where an edge leads.
-fn put_next(buffer: &mut [u8], at: usize, word: u16) -> usize
-    ensures { Put buffer.old buffer.new at result (leads_to word) }
+fn put_next(page: &mut Page, word: u16)
+    ensures { PutOn page.old page.new (leads_to word) }
 {
     if word / 256 == 254 {
-        printing::put(buffer, at, b"refused")
+        page.put(b"refused");
     } else {
-        printing::put_decimal(buffer, at, (word % 256) as u64)
+        page.put_decimal((word % 256) as u64);
     }
 }
 
 // The edge of a state and a letter.
-fn put_edge(buffer: &mut [u8], at: usize, state: usize, letter: usize, word: u16) -> usize
-    ensures { Put buffer.old buffer.new at result (edge_line state letter word) }
+fn put_edge(page: &mut Page, state: usize, letter: usize, word: u16)
+    ensures { PutOn page.old page.new (edge_line state letter word) }
 {
-    let label = [
+    page.put_decimal(state as u64);
+    page.put(b" -> ");
+    put_next(page, word);
+    page.put(b" [label=\"");
+    page.put(&[
         alphabet::letter_byte(letter),
         b' ',
         alphabet::fence_mark(word / 256),
-    ];
-    let arrow_at = printing::put_decimal(buffer, at, state as u64);
-    let next_at = printing::put(buffer, arrow_at, b" -> ");
-    let next_end = put_next(buffer, next_at, word);
-    let label_at = printing::put(buffer, next_end, b" [label=\"");
-    let label_end = printing::put(buffer, label_at, &label);
-    printing::put(buffer, label_end, b"\"];\n")
+    ]);
+    page.put(b"\"];\n");
 }
 
 // The edges of a state.
-fn put_state(buffer: &mut [u8], at: usize, rows: &[u16], letters: usize, state: usize) -> usize
+fn put_state(page: &mut Page, rows: &[u16], letters: usize, state: usize)
     requires { (letters ≤ stride) × ((state + 1) * stride ≤ length rows.now) }
-    ensures { Put buffer.old buffer.new at result (state_edges letters rows.now state) }
+    ensures { PutOn page.old page.new (state_edges letters rows.now state) }
 {
-    let mut here = at;
     for letter in 0..letters {
-        here = put_edge(buffer, here, state, letter, rows[state * STRIDE + letter]);
+        put_edge(page, state, letter, rows[state * STRIDE + letter]);
     }
-    here
 }
 
 // The edges of all states.
-fn put_edges(buffer: &mut [u8], at: usize, rows: &[u16], letters: usize, states: usize) -> usize
+fn put_edges(page: &mut Page, rows: &[u16], letters: usize, states: usize)
     requires { (letters ≤ stride) × (states * stride ≤ length rows.now) }
-    ensures { Put buffer.old buffer.new at result (in_turn (state_edges letters rows.now) states) }
+    ensures { PutOn page.old page.new (in_turn (state_edges letters rows.now) states) }
 {
-    let mut here = at;
     for state in 0..states {
-        here = put_state(buffer, here, rows, letters, state);
+        put_state(page, rows, letters, state);
     }
-    here
 }
 
-// A whole drawing, from the front of the buffer.
-pub(crate) fn put_drawing(buffer: &mut [u8], h: Header, rows: &[u16]) -> usize
+// A whole drawing.
+pub(crate) fn put_drawing(page: &mut Page, h: Header, rows: &[u16])
     requires { (h.ups ≤ 16) × (h.states * stride ≤ length rows.now) }
-    ensures { Put buffer.old buffer.new 0 result (drawing_of h rows.now) }
+    ensures { PutOn page.old page.new (drawing_of h rows.now) }
 {
     let states = ground::wide(h.states);
     let letters = ACCESSES + ground::wide(h.ups);
-    let label_at = printing::put(buffer, 0, b"digraph shim {\n");
-    let nodes_at = put_label(buffer, label_at, h);
-    let edges_at = put_nodes(buffer, nodes_at, states);
-    let end = put_edges(buffer, edges_at, rows, letters, states);
-    printing::put(buffer, end, b"}\n")
+    page.put(b"digraph shim {\n");
+    put_label(page, h);
+    put_nodes(page, states);
+    put_edges(page, rows, letters, states);
+    page.put(b"}\n");
 }

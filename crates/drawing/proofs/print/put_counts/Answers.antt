@@ -5,7 +5,7 @@ use Rattle.drawing.proofs.print.put_counts.Goals as goal
 pub returns : goal.returns
 returns c =
     put_then
-    (prints_put c.put-ups_at.ensures)
+    (prints_put c.put.ensures.prints)
     (put_then
-    (prints_put c.put_decimal-ups_end.ensures)
-    (put_then (prints_put c.put-targets_at.ensures) (put_then (prints_put c.put_decimal-targets_end.ensures) (prints_put c.put.ensures))))
+    (prints_put c.put_decimal.ensures.prints)
+    (put_then (prints_put c.put-2.ensures.prints) (put_then (prints_put c.put_decimal-2.ensures.prints) (prints_put c.put-3.ensures.prints))))

@@ -9,7 +9,7 @@ returns c =
     put_is
     (drawing_text a.h a.rows.now _ _ c.wide-states.ensures.0 c.wide-letters.ensures.0)
     (put_then
-    (prints_put c.put-label_at.ensures)
+    (prints_put c.put.ensures.prints)
     (put_then
-    c.put_label-nodes_at.ensures
-    (put_then c.put_nodes-edges_at.ensures (put_then c.put_edges-end.ensures (prints_put c.put.ensures)))))
+    c.put_label.ensures
+    (put_then c.put_nodes.ensures (put_then c.put_edges.ensures (prints_put c.put-2.ensures.prints)))))

@@ -9,11 +9,11 @@ returns c =
     put_is
     (edge_text a.state a.letter a.word _ _ c.letter_byte.ensures c.fence_mark.ensures)
     (put_then
-    (prints_put c.put_decimal-arrow_at.ensures)
+    (prints_put c.put_decimal.ensures.prints)
     (put_then
-    (prints_put c.put-next_at.ensures)
+    (prints_put c.put.ensures.prints)
     (put_then
-    c.put_next-next_end.ensures
+    c.put_next.ensures
     (put_then
-    (prints_put c.put-label_at.ensures)
-    (put_then (prints_put c.put-label_end.ensures) (prints_put c.put.ensures))))))
+    (prints_put c.put-2.ensures.prints)
+    (put_then (prints_put c.put-3.ensures.prints) (prints_put c.put-4.ensures.prints))))))

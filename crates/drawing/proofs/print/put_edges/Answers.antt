@@ -11,4 +11,4 @@ pub loop-state-preserved : goal.loop-state-preserved
 loop-state-preserved c =
     let l = c.loop-state in
     let a = c.args in
-    put_one_more (state_edges a.letters a.rows.now) l.state l.invariant c.put_state-here.ensures
+    put_one_more (state_edges a.letters a.rows.now) l.state l.invariant c.put_state.ensures

@@ -5,11 +5,11 @@ use Rattle.drawing.proofs.print.put_label.Goals as goal
 pub returns : goal.returns
 returns c =
     put_then
-    (prints_put c.put-upstream_at.ensures)
+    (prints_put c.put.ensures.prints)
     (put_then
-    (prints_put c.put_name-upstream_end.ensures)
+    (prints_put c.put_name.ensures.prints)
     (put_then
-    (prints_put c.put-target_at.ensures)
+    (prints_put c.put-2.ensures.prints)
     (put_then
-    (prints_put c.put_name-target_end.ensures)
-    (put_then (prints_put c.put-way_at.ensures) (put_then c.put_way-way_end.ensures c.put_counts.ensures)))))
+    (prints_put c.put_name-2.ensures.prints)
+    (put_then (prints_put c.put-3.ensures.prints) (put_then c.put_way.ensures c.put_counts.ensures)))))

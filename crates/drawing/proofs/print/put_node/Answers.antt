@@ -4,4 +4,4 @@ use Rattle.drawing.proofs.print.put_node.Goals as goal
 
 pub returns : goal.returns
 returns c =
-    put_then (prints_put c.put_decimal-end.ensures) (prints_put c.put.ensures)
+    put_then (prints_put c.put_decimal.ensures.prints) (prints_put c.put.ensures.prints)

@@ -8,4 +8,4 @@ loop-state-init c = put_no_turn node_line
 pub loop-state-preserved : goal.loop-state-preserved
 loop-state-preserved c =
     let l = c.loop-state in
-    put_one_more node_line l.state l.invariant c.put_node-here.ensures
+    put_one_more node_line l.state l.invariant c.put_node.ensures

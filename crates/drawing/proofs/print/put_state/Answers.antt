@@ -15,7 +15,7 @@ pub loop-letter-preserved : goal.loop-letter-preserved
 loop-letter-preserved c =
     let l = c.loop-letter in
     let a = c.args in
-    put_one_more (edges a.rows.now a.state) l.letter l.invariant c.put_edge-here.ensures
+    put_one_more (edges a.rows.now a.state) l.letter l.invariant c.put_edge.ensures
 
 pub returns : goal.returns
 returns c =

@@ -1,7 +1,7 @@
 -- `put_state` meets its contract: after so many letters their edges stand there. Assumes nothing.
 use Prim.Native.Nat.{ℕ}
 use mathlib.Core.List.{List}
-use Rattle.printing.specs.Putting.{Put}
+use Rattle.printing.specs.Putting.{PutOn}
 use Rattle.printing.specs.Turns.{in_turn}
 use Rattle.image.specs.Image.{word}
 use Rattle.drawing.specs.Drawing.{edge_line}
@@ -13,4 +13,4 @@ edges rows state letter = edge_line state letter (word rows state letter)
 
 abbrev pub invariant-loop-letter : goal.invariant-loop-letter
 invariant-loop-letter l =
-    Put l.initial.buffer l.buffer l.at l.here (in_turn (edges l.rows l.state) l.letter)
+    PutOn l.initial.page l.page (in_turn (edges l.rows l.state) l.letter)

@@ -5,8 +5,8 @@ use Rattle.drawing.proofs.print.put_way.Goals as goal
 
 pub returns-then-way-eq0 : goal.returns-then-way-eq0
 returns-then-way-eq0 c =
-    put_is (sparing_word _ c.if-way-eq0.true) (prints_put c.put.ensures)
+    put_is (sparing_word _ c.if-way-eq0.true) (prints_put c.put.ensures.prints)
 
 pub returns-else-way-eq0 : goal.returns-else-way-eq0
 returns-else-way-eq0 c =
-    put_is (full_word _ c.if-way-eq0.false) (prints_put c.put-else-way-eq0.ensures)
+    put_is (full_word _ c.if-way-eq0.false) (prints_put c.put-else-way-eq0.ensures.prints)
