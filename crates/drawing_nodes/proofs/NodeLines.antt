@@ -13,7 +13,6 @@ use lib.Dec.{T}
 use lib.ListN.{length, take, drop, get_or, take-append-drop, get_or-eq_default}
 use lib.Seq.{drop-cons, get_or-drop}
 use Rattle.ground.specs.Bytes.{bytes}
-use Rattle.texts.specs.Step.{Step}
 use Rattle.texts.specs.Language.{Telling, Any, Some, Unique}
 use Rattle.texts.specs.Pattern.{is_word, follow_at}
 use Rattle.texts.specs.Telling.{Then, Word, Taken, took, stopped, Finds}

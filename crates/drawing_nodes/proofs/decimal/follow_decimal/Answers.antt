@@ -1,45 +1,41 @@
--- `follow_decimal` meets its contract: the digits stand in front of the array, and the word is followed behind them. Assumes nothing.
+-- `follow_decimal` meets its contract: the digits are all that is on the page, and the word is followed behind them. Assumes nothing.
 use Rattle.std.proofs.Common.{Err}
 use Prim.Native.Nat.{ℕ, ◌<◌, ◌^◌}
-use mathlib.Core.Path.{refl, sym, ap, ◌∙◌}
+use mathlib.Core.Path.{◌≡◌, refl, sym, ap, ◌∙◌}
 use mathlib.Core.List.{List}
-use lib.ListN.{replicate}
+use lib.ListN.{take, replicate}
 use native.Mathlib.Nat.{lt_trans}
 use native.Mathlib.Omega.{arith}
 use lib.Dec.{lit<}
-use Rattle.texts.specs.Step.{Step}
 use Rattle.texts.specs.Pattern.{follow_at}
 use Rattle.texts.proofs.Language.{step_stuck, step_next}
 use Rattle.printing.specs.Decimal.{decimal}
 use Rattle.printing.specs.Printing.{Prints}
-use Rattle.printing.specs.Putting.{Fronts}
 use Rattle.printing.proofs.Decimals.{length_digits}
 use Rattle.printing.proofs.Putting.{prints_put, put_fronts}
 use Rattle.drawing_nodes.proofs.Following.{follow_then}
 use Rattle.drawing_nodes.proofs.decimal.follow_decimal.Goals as goal
 
--- the digits stand in front
-fronts : {buffer : List ℕ} {n : ℕ} (number : ℕ) → number < 2 ^ 64 → Prints (replicate 20 0) buffer 0 n (decimal number) → Fronts buffer n (decimal number)
-fronts number small p = put_fronts (prints_put p) (omega (arith, length_digits 19 number (lt_trans small (lit< tt))))
-
-pub slice_bounds-digits-end : goal.slice_bounds-digits-end
-slice_bounds-digits-end c = (fronts c.args.number (omega (arith, c.ranges.number)) c.put_decimal-n.ensures).inside
-
-pub slice_bounds-follow-end : goal.slice_bounds-follow-end
-slice_bounds-follow-end c = (fronts c.args.number (omega (arith, c.ranges.number)) c.put_decimal-n.ensures).count
+-- the digits are all that is on the page
+digits : {bytes after : List ℕ} {at n : ℕ} (number : ℕ) → number < 2 ^ 64 → bytes ≡ replicate 20 0 → at ≡ 0
+    → Prints bytes after at n (decimal number) → take n after ≡ decimal number
+digits number small same none p =
+    put_fronts same none (prints_put p) (omega (arith, length_digits 19 number (lt_trans small (lit< tt))))
 
 pub returns-in-Err : goal.returns-in-Err
 returns-in-Err c =
     let a = c.args in
-    let f = fronts a.number (omega (arith, c.ranges.number)) c.put_decimal-n.ensures in
+    let new = c.new-page.ensures in
+    let f = c.text.ensures ∙ digits a.number (omega (arith, c.ranges.number)) new.bytes_kept new.nothing_put c.put_decimal.ensures.prints in
     step_stuck Err (follow_at a.after.now a.text.now)
-    (c.follow.ensures ∙ ap (λ (w : List ℕ). follow_at w a.text.now a.at) f.bytes) c.in-Err.is refl
+    (c.follow.ensures ∙ ap (λ (w : List ℕ). follow_at w a.text.now a.at) f) c.in-Err.is refl
     ∙ sym (follow_then (decimal a.number) a.after.now a.text.now a.at)
 
 pub returns-in-Ok : goal.returns-in-Ok
 returns-in-Ok c =
     let a = c.args in
-    let f = fronts a.number (omega (arith, c.ranges.number)) c.put_decimal-n.ensures in
+    let new = c.new-page.ensures in
+    let f = c.text.ensures ∙ digits a.number (omega (arith, c.ranges.number)) new.bytes_kept new.nothing_put c.put_decimal.ensures.prints in
     step_next Err (follow_at a.after.now a.text.now)
-    (c.follow.ensures ∙ ap (λ (w : List ℕ). follow_at w a.text.now a.at) f.bytes) c.in-Ok.is c.follow-in-Ok.ensures
+    (c.follow.ensures ∙ ap (λ (w : List ℕ). follow_at w a.text.now a.at) f) c.in-Ok.is c.follow-in-Ok.ensures
     ∙ sym (follow_then (decimal a.number) a.after.now a.text.now a.at)
