@@ -1,5 +1,5 @@
-// Texts put behind one another: bytes, names and numbers in decimal. A text that does not fit is not put, and the place where the text in the
-// making ends is then past the end of its bytes, where nothing fits again: so puts stand one behind another, and are looked at once at the end.
+// Texts put on a page one behind another: bytes, names and numbers in decimal. A text that does not fit is not put, and the place where the
+// page's text ends is then past the end of its bytes, where nothing fits again: so puts follow each other, and are looked at once at the end.
 #![tactic(auto)]
 
 ghost use Rattle.std.specs.Prelude.{◌≡◌, length, take};
@@ -38,7 +38,7 @@ impl<'a> Page<'a> {
         &self.bytes[..self.at.min(self.bytes.len())]
     }
 
-    // Puts a text behind the first bytes.
+    // Puts a text behind the first `at` bytes.
     pub fn put(&mut self, text: &[u8])
         ensures same_reference { self.new.bytes.ghost_name ≡ self.old.bytes.ghost_name }
         ensures prints { Prints self.old.bytes.now self.new.bytes.now self.old.at self.new.at text.now }
@@ -58,7 +58,7 @@ impl<'a> Page<'a> {
         ensures prints { Prints self.old.bytes.now self.new.bytes.now self.old.at self.new.at (unfilled name.now) }
     {
         let n = name_length(name);
-        self.put(&name[..n])
+        self.put(&name[..n]);
     }
 
     // Puts a number in decimal. Its digits, at most twenty, are made from the last to the first.
@@ -75,6 +75,6 @@ impl<'a> Page<'a> {
             left /= 10;
         }
         digits[first] = b'0' + left as u8;
-        self.put(&digits[first..])
+        self.put(&digits[first..]);
     }
 }
