@@ -12,6 +12,7 @@ use operations::alphabet;
 use operations::alphabet::{ACCESSES, STRIDE};
 use printing::Page;
 
+// A header's byte, where the listing has a `Way` and ends the line.
 fn put_way(page: &mut Page, way: u8)
     ensures { PutOn page.old page.new (way_word way) }
 {
@@ -27,6 +28,7 @@ fn put_counts(page: &mut Page, ups: u8, targets: u8)
     ensures { PutOn page.old page.new
         (bytes " " ++ (decimal ups ++ (bytes " " ++ (decimal targets ++ bytes "\";\n")))) }
 {
+    // `u64::from` was tried: the proof loses that it is the same number.
     page.put(b" ");
     page.put_decimal(ups as u64);
     page.put(b" ");

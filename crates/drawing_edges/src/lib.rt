@@ -30,7 +30,7 @@ fn fence_named(b: u8) -> Option<usize>
     }
 }
 
-// The mark of one of the first so many fences, or of none, which is told as 255.
+// The mark of one of the first so many fences, or of none, which is told as 255: the fence byte of a machine's rows, as an image has it.
 fn mark(text: &[u8], at: usize, marks: usize) -> Part
     requires { marks ≤ 16 }
     ensures { Finds (MarkPart marks) text.now at (part_taken result) }

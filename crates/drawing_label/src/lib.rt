@@ -26,6 +26,7 @@ struct Places {
 pub struct LabelRead {
     pub upstream: [u8; 16],
     pub target: [u8; 16],
+    // as the header has it
     pub way: usize,
     pub ups: usize,
     pub targets: usize,

@@ -40,7 +40,8 @@ pub fn same<'a>(first: &'a [u8], second: &'a [u8]) -> bool
     first == second
 }
 
-// The first place of a byte, from one on; the end where there is none, and that place itself where it is past the end.
+// The first place of a byte, from one on; the end where there is none, and that place itself where it is past the end. No Option: every caller
+// cuts the slice there, and the promises `in_bounds` and `value` are of this number.
 pub fn find(bytes: &[u8], from: usize, byte: u8) -> usize
     ensures in_bounds { (from ≤ result) × (from ≤ length bytes.now → result ≤ length bytes.now) }
     ensures value { result ≡ from + index_of byte (drop from bytes.now) }

@@ -2,7 +2,7 @@
 // fence byte and the next state.
 use answers::Refusal;
 
-// Bytes, so that every header has an image. The names are filled up with zeros.
+// Bytes, the way's too, so that every header has an image. The names are filled up with zeros.
 #[derive(Clone, Copy)]
 pub struct Header {
     pub way: u8,

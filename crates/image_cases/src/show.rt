@@ -11,6 +11,7 @@ pub(crate) fn marks() -> [u8; 8193]
     [b'#'; 8193]
 }
 
+// In each of the programs: a crate that prints for them could promise nothing of what it prints.
 pub(crate) fn print_answer(answer: Answer) {
     let mut line = [0u8; 104];
     let told = cases::answer_text(answer, &mut line);

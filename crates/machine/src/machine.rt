@@ -5,7 +5,7 @@ use answers::Refusal;
 // byte (a target fence's number, 255 none, 254 refused) and the next state.
 #[derive(Clone, Copy)]
 pub struct Machine {
-    // 0 sparing, 1 full
+    // 0 sparing, 1 full: the number that images and calls have, by which `Making` speaks of it
     pub way: u64,
     pub situations: usize,
     pub states: usize,

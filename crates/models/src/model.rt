@@ -8,7 +8,8 @@ pub struct Name {
     pub bytes: [u8; 16],
 }
 
-// Past its last fence a model holds nothing: table 0 and a name of zeros.
+// Past its last fence a model holds nothing: table 0 and a name of zeros. The count stands beside the arrays, since the definitions `held` and
+// `described` speak of these fields, of any count, and a model is copied and takes no heap.
 #[derive(Clone, Copy)]
 pub struct Model {
     pub ppo: Table,

@@ -69,6 +69,7 @@ impl<'a> Page<'a> {
         let mut digits = [0u8; 20];
         let mut first = 19;
         let mut left = number;
+        // No range is counted here: the number tells when its digits end.
         while 10 <= left {
             digits[first] = b'0' + (left % 10) as u8;
             first -= 1;

@@ -67,6 +67,7 @@ impl Situation {
     }
 }
 
+// Rows and columns are two types, so each of the two has its match.
 fn in_rows(kind: Kind) -> Table
     ensures { result ≡ in_rows kind }
 {

@@ -7,6 +7,7 @@
 use answers::Answer;
 use cases::fields::{field, groups_from, number};
 
+// In each of the programs: a crate that prints for them could promise nothing of what it prints.
 fn print_answer(answer: Answer) {
     let mut line = [0u8; 104];
     let told = cases::answer_text(answer, &mut line);

@@ -3,6 +3,7 @@
 ghost use Rattle.std.specs.Prelude.{◌≡◌, max, min, leb};
 ghost use Rattle.tables.specs.Strength.{level_of, letter};
 
+// A byte and no enum: the functions promise answers of every level, and `letter` gives S of those above 3.
 #[derive(Clone, Copy)]
 pub struct Strength {
     pub level: u8,
