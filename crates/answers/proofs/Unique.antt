@@ -4,8 +4,7 @@ use Prim.Native.Nat.{ℕ}
 use mathlib.Core.Path.{◌≡◌, refl, sym, ◌∙◌}
 use mathlib.Core.List.{List}
 use Rattle.answers.specs.declared.Refusal.{Refusal}
-use Rattle.answers.specs.Answer.{Answer}
-use Rattle.answers.specs.Answer.{number_of, place_of, numbers_of}
+use Rattle.answers.specs.Answer.{Answer, number_of, place_of, numbers_of}
 use Rattle.answers.specs.Given.{gives, Delivers}
 use Rattle.answers.proofs.Given.{delivers_one}
 

@@ -7,10 +7,9 @@ use Rattle.ground.specs.Bytes.{bytes}
 use Rattle.answers.specs.declared.Refusal.{Refusal}
 use Rattle.answers.specs.Given.{Given}
 use Rattle.tables.specs.declared.table.Table.{Table}
-use Rattle.models.specs.Told.{Reading}
+use Rattle.models.specs.Told.{Reading, held, accepting, refusing}
 use Rattle.models.specs.Model.{Fence, Description}
 use Rattle.models.specs.Reading.{table_in}
-use Rattle.models.specs.Told.{held, accepting, refusing}
 use Rattle.models.specs.Text.{text_of}
 use Rattle.writing.specs.Calls.{text_given}
 

@@ -2,8 +2,7 @@
 -- Assumes nothing.
 use Rattle.std.proofs.Common.{◌≡◌, ℕ, ◌+◌, ◌^◌, ◌<◌, ◌≤◌, List, [], ◌∷◌, ◌++◌, length, get_or, refl, ap, ◌∙◌, arith, length-append, Ok, Err}
 use Rattle.ground.specs.Bytes.{bytes}
-use Rattle.answers.specs.Answer.{Answer}
-use Rattle.answers.specs.Answer.{numbers_of}
+use Rattle.answers.specs.Answer.{Answer, numbers_of}
 use Rattle.printing.specs.Decimal.{decimal}
 use Rattle.printing.proofs.Decimals.{length_digits}
 use Rattle.cases.specs.Printed.{behind_blanks, with_blanks}

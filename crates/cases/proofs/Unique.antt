@@ -5,8 +5,7 @@ use native.Mathlib.Decide.{dec_lt}
 use Rattle.std.specs.Prelude.{Option, Some, None}
 use Rattle.std.specs.Option.{option_map}
 use Rattle.io.specs.Counts.{IsPrefixLen}
-use Rattle.answers.specs.Answer.{Answer}
-use Rattle.answers.specs.Answer.{numbers_of}
+use Rattle.answers.specs.Answer.{Answer, numbers_of}
 use Rattle.answers.specs.Given.{gives, Delivers}
 use Rattle.answers.proofs.Given.{delivers_one}
 use Rattle.cases.specs.Buffer.{untouched, Repeats}

@@ -3,10 +3,9 @@
 use Prim.Native.Nat.{ℕ}
 use mathlib.Core.Path.{◌≡◌, sym, ◌∙◌}
 use mathlib.Core.List.{List}
-use Rattle.comparison.specs.Comparison.{Compared}
+use Rattle.comparison.specs.Comparison.{Compared, number_of, Compares, comparing}
 use Rattle.tables.specs.declared.table.Table.{Table}
 use Rattle.comparison.specs.declared.Comparison.{Comparison}
-use Rattle.comparison.specs.Comparison.{number_of, Compares, comparing}
 use Rattle.comparison.proofs.Words.{compares_is}
 
 pub number_one : (self : Comparison) {r r' : ℕ} → r ≡ number_of self → r' ≡ number_of self → r ≡ r'

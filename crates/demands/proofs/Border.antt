@@ -6,8 +6,7 @@ use mathlib.Core.Path.{◌≡◌, sym, ap, ◌∙◌}
 use mathlib.Core.List.{List, [], ◌∷◌}
 use Rattle.ground.proofs.Truths.{differ}
 use Rattle.answers.specs.declared.Refusal.{Refusal}
-use Rattle.answers.specs.Answer.{Answer, wrote}
-use Rattle.answers.specs.Answer.{number_of, place_of, numbers_of}
+use Rattle.answers.specs.Answer.{Answer, wrote, number_of, place_of, numbers_of}
 use Rattle.host.specs.Border.{number_in, Tells}
 use Rattle.demands.specs.Border.{TellsDone, TellsRefused}
 

@@ -8,17 +8,15 @@ use mathlib.Core.Logic.{◌↔◌}
 use mathlib.Core.List.{List, [], ◌∷◌, map}
 use native.Mathlib.Omega.{arith}
 use lib.ListN.{length, take, drop, length-map}
-use Rattle.comparison.specs.Comparison.{Compared}
+use Rattle.comparison.specs.Comparison.{Compared, comparing}
 use Rattle.ground.proofs.Truths.{differ}
 use Rattle.answers.specs.declared.Refusal.{Refusal}
-use Rattle.answers.specs.Answer.{Answer, wrote}
-use Rattle.answers.specs.Answer.{number_of, place_of, numbers_of}
+use Rattle.answers.specs.Answer.{Answer, wrote, number_of, place_of, numbers_of, Verdict}
 use Rattle.answers.specs.Given.{Given, refuses, Delivers, Answers}
 use Rattle.operations.specs.Operation.{byte_of}
 use Rattle.shims.specs.declared.Models.{Models}
 use Rattle.runs.specs.Call.{outcome}
 use Rattle.demands.specs.DirectRuns.{over_limit, no_operation, no_such_fence, no_fence_will_do, RunRefused, opening, at_stream, too_small}
-use Rattle.answers.specs.Answer.{Verdict}
 use Rattle.layout.specs.Verdict.{verdict_of}
 use Rattle.image.specs.Calls.{written_back, Rewrites}
 use Rattle.image_runs.specs.Run.{run_over}
@@ -26,7 +24,6 @@ use Rattle.drawing.specs.Calls.{drawn}
 use Rattle.drawing_reader.specs.Undrawing.{Undrawn}
 use Rattle.writing.specs.Calls.{back_given}
 use Rattle.built_ins.specs.BuiltIns.{built_in_given}
-use Rattle.comparison.specs.Comparison.{comparing}
 use Rattle.host.specs.Border.{number_in, compared_as, relation_of, TellsRelation}
 use Rattle.generation.specs.Generating.{ImageGiven}
 use Rattle.listing.specs.Listed.{Listed}

@@ -11,8 +11,7 @@ use mathlib.Core.List.{List, [], ◌∷◌}
 use lib.ListN.{length, take}
 use Rattle.ground.specs.Bytes.{at}
 use Rattle.answers.specs.declared.Refusal.{Refusal}
-use Rattle.answers.specs.Answer.{Answer, wrote}
-use Rattle.answers.specs.Answer.{Verdict}
+use Rattle.answers.specs.Answer.{Answer, wrote, Verdict}
 use Rattle.answers.specs.Given.{gives, unless_refused, Delivers, Answers}
 use Rattle.operations.specs.Operation.{fence_bytes}
 use Rattle.rule.specs.Stream.{Stream}
@@ -145,7 +144,7 @@ any_image_run image bytes start stream call =
     )
 
 -- An image that is accepted reads and writes back unchanged, with its header told.
-pub image_written_back : (image : List ℕ) → verdict_of image ≡ (Ok tt) → {out header after : List ℕ} {r : Answer}
+pub image_written_back : (image : List ℕ) → verdict_of image ≡ Ok tt → {out header after : List ℕ} {r : Answer}
     → Rewrites image out header r after
     → length image ≤ length out
     → (r ≡ Ok (wrote (length image) 0 0)) × (take (length image) after ≡ image)

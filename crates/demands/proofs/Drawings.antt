@@ -9,8 +9,7 @@ use lib.ListN.{length}
 use Rattle.ground.specs.Bytes.{at}
 use Rattle.ground.proofs.Truths.{differ}
 use Rattle.answers.specs.declared.Refusal.{Refusal}
-use Rattle.answers.specs.Answer.{Answer, wrote}
-use Rattle.answers.specs.Answer.{Verdict}
+use Rattle.answers.specs.Answer.{Answer, wrote, Verdict}
 use Rattle.answers.specs.Given.{Given, gives, refuses, unless_refused, Delivers, Answers}
 use Rattle.operations.specs.Alphabet.{stride}
 use Rattle.layout.specs.Verdict.{verdict_of}

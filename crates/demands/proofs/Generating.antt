@@ -20,9 +20,8 @@ use Rattle.answers.specs.Given.{Given, gives, refuses, GivenUnless, Answers}
 use Rattle.operations.specs.Alphabet.{access_letters}
 use Rattle.rule.specs.Sides.{upstream_of, target_of}
 use Rattle.shims.specs.declared.Models.{Models}
-use Rattle.shims.specs.Opening.{Opening}
+use Rattle.shims.specs.Opening.{Opening, way_of, opened, GivenOnOpened}
 use Rattle.shims.specs.Models.{shim_between}
-use Rattle.shims.specs.Opening.{way_of, opened, GivenOnOpened}
 use Rattle.shims.proofs.Theorems as shims
 use Rattle.shims.proofs.Theorems.{opens_so}
 use Rattle.shims.proofs.Fences.{few_read}

@@ -217,7 +217,7 @@ module _ (image : List ℕ) (start : ℕ) (stream : List ℕ) (room : ℕ) where
   abbrev given : Given
   given = run_over image start stream
 
-  by_walk : verdict_of image ≡ (Ok tt) → start < states_of image → length stream ≤ 4096 → (w : Walked) → walked image start stream ≡ w
+  by_walk : verdict_of image ≡ Ok tt → start < states_of image → length stream ≤ 4096 → (w : Walked) → walked image start stream ≡ w
       → {why : Refusal} → Withheld (outcome_of w) room why → Told why
   by_walk a l k (ended bytes f t) e (refused h) = differ (cc)
   by_walk a l k (ended bytes f t) e (exceeds {bytes = out} h m) =
@@ -230,7 +230,7 @@ module _ (image : List ℕ) (start : ℕ) (stream : List ℕ) (room : ℕ) where
       stops Stop.NoSuchFence e = no_such_fence place a l k (walk_told image Stop.NoSuchFence start stream place e)
       stops Stop.NoFenceWillDo e = no_fence_will_do place a l k (walk_told image Stop.NoFenceWillDo start stream place e)
 
-  out_of_range : verdict_of image ≡ (Ok tt) → states_of image ≤ start → given ≡ refuses Refusal.OutOfRange
+  out_of_range : verdict_of image ≡ Ok tt → states_of image ≤ start → given ≡ refuses Refusal.OutOfRange
   unfolding run_over
   out_of_range a l = rw (a, le-ltb start (states_of image) l)
 
@@ -238,14 +238,14 @@ module _ (image : List ℕ) (start : ℕ) (stream : List ℕ) (room : ℕ) where
   unfolding run_over
   run_told {why} h = by_verdict (verdict_of image) refl
     where
-      by_length : verdict_of image ≡ (Ok tt) → start < states_of image → Dec (length stream ≤ 4096) → Told why
+      by_length : verdict_of image ≡ Ok tt → start < states_of image → Dec (length stream ≤ 4096) → Told why
       by_length a l (yes k) =
           by_walk a l k (walked image start stream) refl (subst (λ (g : Given). Withheld g room why) (over_walk image start stream a l k) h)
       by_length a l (no k) =
           let long : 4096 < length stream = omega arith in
           subst Told (refused_as (over_long image start stream a l long) h) (calls.over_limit a l long)
 
-      by_start : verdict_of image ≡ (Ok tt) → Dec (start < states_of image) → Told why
+      by_start : verdict_of image ≡ Ok tt → Dec (start < states_of image) → Told why
       by_start a (yes l) = by_length a l (dec_le (length stream) 4096)
       by_start a (no l) = subst Told (refused_as (out_of_range a (omega arith)) h) (no_such_state a (omega arith))
 
@@ -254,7 +254,7 @@ module _ (image : List ℕ) (start : ℕ) (stream : List ℕ) (room : ℕ) where
           calls.image_refused (verdict_told image (a ∙ ap Err (refused_as (ap (run_as image start stream) a) h)))
       by_verdict (Ok tt) a = by_start a (dec_lt start (states_of image))
 
-  stopping : (why : Stop) {place : ℕ} → verdict_of image ≡ (Ok tt) → start < states_of image → length stream ≤ 4096
+  stopping : (why : Stop) {place : ℕ} → verdict_of image ≡ Ok tt → start < states_of image → length stream ≤ 4096
       → WalkStopsAt image start stream place (FaultOf image why) → Withheld given room (refusal_of why place)
   stopping why a l k h = refused (over_walk image start stream a l k ∙ ap outcome_of (told_walk image why h))
 

@@ -10,8 +10,7 @@ use Rattle.answers.specs.Answer.{Answer, wrote}
 use Rattle.answers.specs.Given.{Answers}
 use Rattle.rule.specs.Rule.{way_number}
 use Rattle.shims.specs.declared.Models.{Models}
-use Rattle.shims.specs.Opening.{Opening}
-use Rattle.shims.specs.Opening.{way_of, on_opened, Opens}
+use Rattle.shims.specs.Opening.{Opening, way_of, on_opened, Opens}
 use Rattle.shims.proofs.Theorems.{read_written, opens_so}
 use Rattle.runs.specs.Call.{run_given}
 use Rattle.listing.specs.Listed.{Listed}

@@ -18,8 +18,7 @@ use Rattle.operations.specs.Operation.{byte_of}
 use Rattle.rule.specs.Stream.{Stream}
 use Rattle.rule.specs.Rule.{way_number}
 use Rattle.shims.specs.declared.Models.{Models}
-use Rattle.shims.specs.Opening.{Opening}
-use Rattle.shims.specs.Opening.{way_of, opened_by, opened, GivenOnOpened}
+use Rattle.shims.specs.Opening.{Opening, way_of, opened_by, opened, GivenOnOpened}
 use Rattle.shims.proofs.Theorems.{read_written, opens, opens_so}
 use Rattle.runs.specs.Bytes.{puts, direct}
 use Rattle.runs.specs.Call.{run_given}

@@ -8,19 +8,17 @@ use native.Mathlib.Decide.{dec_lt}
 use native.Mathlib.Omega.{arith}
 use borrow.Author.Tests.{lt-ltb, le-ltb}
 use lib.ListN.{length}
-use Rattle.comparison.specs.Comparison.{Compared}
+use Rattle.comparison.specs.Comparison.{Compared, compared_both, compared_first, comparing}
 use Rattle.ground.proofs.Truths.{differ}
 use Rattle.answers.specs.declared.Refusal.{Refusal}
 use Rattle.answers.specs.Given.{Given, gives, refuses}
 use Rattle.models.specs.declared.model.Model.{Model}
-use Rattle.models.specs.Told.{Reading}
+use Rattle.models.specs.Told.{Reading, Told, accepting}
 use Rattle.models.specs.Reading.{reading}
 use Rattle.models.specs.Text.{text_of}
-use Rattle.models.specs.Told.{Told, accepting}
 use Rattle.models.proofs.Words.{told_is}
 use Rattle.writing.specs.Calls.{text_given, back_given}
 use Rattle.built_ins.specs.BuiltIns.{built_in, built_in_reading, built_in_given}
-use Rattle.comparison.specs.Comparison.{compared_both, compared_first, comparing}
 use Rattle.comparison.proofs.Words.{compares, compares_is}
 use Rattle.demands.specs.ModelCalls as calls
 use Rattle.demands.specs.ModelCalls.{ModelRefused, text_refused, BuiltInRefused, out_of_range, TextsCompare, first_refused, second_refused}

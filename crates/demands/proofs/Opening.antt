@@ -12,14 +12,12 @@ use Rattle.answers.specs.declared.Refusal.{Refusal}
 use Rattle.rule.specs.declared.way.Way.{Way}
 use Rattle.rule.specs.Rule.{way_number}
 use Rattle.models.specs.declared.model.Model.{Model}
-use Rattle.models.specs.Told.{Reading}
+use Rattle.models.specs.Told.{Reading, Told, accepting, refusing}
 use Rattle.models.specs.Reading.{reading}
-use Rattle.models.specs.Told.{Told, accepting, refusing}
 use Rattle.models.proofs.Words.{told, told_is}
 use Rattle.shims.specs.declared.Models.{Models}
-use Rattle.shims.specs.Opening.{Opening}
+use Rattle.shims.specs.Opening.{Opening, way_of, on_reading, on_target, opened_by, opened, Opens}
 use Rattle.shims.specs.Opening as shims
-use Rattle.shims.specs.Opening.{way_of, on_reading, on_target, opened_by, opened, Opens}
 use Rattle.shims.proofs.Theorems.{read_written, opens_so}
 use Rattle.demands.specs.Opened.{Opened, OpeningRefused, no_way, upstream_refused, target_refused}
 

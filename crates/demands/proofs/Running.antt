@@ -11,8 +11,7 @@ use lib.ListN.{length}
 use Rattle.answers.specs.declared.Refusal.{Refusal}
 use Rattle.answers.specs.Given.{Given, refuses}
 use Rattle.shims.specs.declared.Models.{Models}
-use Rattle.shims.specs.Opening.{Opening}
-use Rattle.shims.specs.Opening.{way_of, opened, on_opened}
+use Rattle.shims.specs.Opening.{Opening, way_of, opened, on_opened}
 use Rattle.shims.proofs.Theorems.{opens, opens_so}
 use Rattle.runs.specs.Bytes.{direct}
 use Rattle.runs.specs.Call.{run_given, outcome}

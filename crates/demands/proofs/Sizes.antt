@@ -13,13 +13,11 @@ use Rattle.rule.specs.declared.way.Way.{Way}
 use Rattle.ground.specs.Bytes.{at}
 use Rattle.ground.proofs.Truths.{differ, true_false}
 use Rattle.answers.specs.declared.Refusal.{Refusal}
-use Rattle.answers.specs.Answer.{Answer}
-use Rattle.answers.specs.Answer.{Verdict}
+use Rattle.answers.specs.Answer.{Answer, Verdict}
 use Rattle.answers.specs.Given.{Given, gives, refuses, unless_refused, GivenUnless, Delivers, Answers}
 use Rattle.rule.specs.Pairs.{every}
-use Rattle.models.specs.Told.{Reading}
+use Rattle.models.specs.Told.{Reading, Told, held, accepting, refusing, over, departs, repeated, accepted}
 use Rattle.models.specs.Reading.{table_in, reading}
-use Rattle.models.specs.Told.{Told, held, accepting, refusing, over, departs, repeated, accepted}
 use Rattle.models.proofs.Words.{told, accepted_told}
 use Rattle.models.specs.Model.{Description}
 use Rattle.models.specs.Text.{text_of}
@@ -29,9 +27,8 @@ use Rattle.writing.proofs.Short.{text_short}
 use Rattle.built_ins.specs.BuiltIns.{four_rows, under, none, model, built_ins, built_in, built_in_reading, built_in_given}
 use Rattle.rule.specs.Rule.{way_number}
 use Rattle.shims.specs.declared.Models.{Models}
-use Rattle.shims.specs.Opening.{Opening}
+use Rattle.shims.specs.Opening.{Opening, opened_by, GivenOnOpened}
 use Rattle.shims.specs.Opening as shims
-use Rattle.shims.specs.Opening.{opened_by, GivenOnOpened}
 use Rattle.shims.proofs.Theorems.{read_written}
 use Rattle.runs.specs.Bytes.{direct}
 use Rattle.runs.specs.Call.{run_given, outcome}
@@ -98,12 +95,12 @@ verdict_not_7 image = by (ltb limit (length image))
     by true e = differ (cc)
     by false e = stages_not_7 (lowest_wrong image) (lowest_barred image) e
 
-accepted_short : (image : List ℕ) → verdict_of image ≡ (Ok tt) → length image ≤ image_out
+accepted_short : (image : List ℕ) → verdict_of image ≡ Ok tt → length image ≤ image_out
 unfolding verdict_of
 accepted_short image = by (ltb limit (length image)) refl
   where
     by : (b : Bool) → ltb limit (length image) ≡ b
-        → cond b (Err Refusal.OverLimit) (stages (lowest_wrong image) (lowest_barred image)) ≡ (Ok tt) → length image ≤ image_out
+        → cond b (Err Refusal.OverLimit) (stages (lowest_wrong image) (lowest_barred image)) ≡ Ok tt → length image ≤ image_out
     by true e z = differ (cc)
     by false e z = omega (arith, ltb-false limit (length image) e)
 

@@ -13,8 +13,7 @@ use lib.Dec.{leb}
 use lib.ListN.{length}
 use Rattle.ground.proofs.Truths.{differ}
 use Rattle.answers.specs.declared.Refusal.{Refusal}
-use Rattle.answers.specs.Answer.{Answer, wrote}
-use Rattle.answers.specs.Answer.{Verdict}
+use Rattle.answers.specs.Answer.{Answer, wrote, Verdict}
 use Rattle.answers.specs.Buffer.{answer_with}
 use Rattle.answers.specs.Given.{Given, gives, refuses, answer_of, buffer_of, Delivers}
 use Rattle.operations.specs.declared.Operation.{Operation}
@@ -55,17 +54,17 @@ use Rattle.demands.proofs.Walking.{walk_of, told_machine, walks_as_told}
 
 -- what a call over an image gives by its walk, and what it has gone through where it gives bytes
 module _ (image : List ℕ) (s : ℕ) (stream : List ℕ) where
-  pub over_walk : verdict_of image ≡ (Ok tt) → s < states_of image → length stream ≤ 4096
+  pub over_walk : verdict_of image ≡ Ok tt → s < states_of image → length stream ≤ 4096
       → run_over image s stream ≡ outcome_of (walked image s stream)
   unfolding run_over
   over_walk a l k = rw (a, lt-ltb s (states_of image) l, le-leb (length stream) 4096 k)
 
-  pub over_long : verdict_of image ≡ (Ok tt) → s < states_of image → 4096 < length stream → run_over image s stream ≡ refuses Refusal.OverLimit
+  pub over_long : verdict_of image ≡ Ok tt → s < states_of image → 4096 < length stream → run_over image s stream ≡ refuses Refusal.OverLimit
   unfolding run_over
   over_long a l k = rw (a, lt-ltb s (states_of image) l, lt-leb (length stream) 4096 k)
 
   pub record Walks (bytes : List ℕ) (fences t : ℕ) : Type 0 where
-    pub accepted : verdict_of image ≡ (Ok tt)
+    pub accepted : verdict_of image ≡ Ok tt
     pub start : s < states_of image
     pub within : length stream ≤ 4096
     pub ends_so : walked image s stream ≡ ended bytes fences t

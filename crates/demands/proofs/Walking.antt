@@ -27,9 +27,8 @@ use Rattle.places.specs.Layout.{position}
 use Rattle.barred.specs.Barred.{upstream_fences_of}
 use Rattle.image_runs.specs.declared.Stop.{Stop}
 use Rattle.image_runs.specs.declared.Move.{Move}
-use Rattle.image_runs.specs.Run.{Step}
+use Rattle.image_runs.specs.Run.{Step, access_step, step_at, Walked, ended, stopped, walked_on, resumed, walked}
 use Rattle.image_runs.specs.Run as walks
-use Rattle.image_runs.specs.Run.{access_step, step_at, Walked, ended, stopped, walked_on, resumed, walked}
 use Rattle.demands.specs.Streams.{StreamIn}
 use Rattle.demands.specs.Images.{access_answer, entry_answer}
 use Rattle.runs.proofs.Judging.{OfN}

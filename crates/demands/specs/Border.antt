@@ -2,8 +2,7 @@
 -- (include/shim.h). A promise is that of the call below.
 use Rattle.std.specs.Prelude.{ℕ, ◌≡◌, List, [], ◌∷◌, Ok, Err}
 use Rattle.answers.specs.declared.Refusal.{Refusal}
-use Rattle.answers.specs.Answer.{Answer, wrote}
-use Rattle.answers.specs.Answer.{number_of, place_of}
+use Rattle.answers.specs.Answer.{Answer, wrote, number_of, place_of}
 
 -- 0 was returned: the call is done, and its promise is kept by these numbers
 pub record TellsDone (Promise : Answer → List ℕ → Type 0) (numbers after : List ℕ) : Type 0 where

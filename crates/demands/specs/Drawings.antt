@@ -15,7 +15,7 @@ use Rattle.demands.specs.ImageCalls.{ImageRefused}
 -- the text is the drawing of an image that reads
 pub record DrawnAs (image text : List ℕ) : Type 0 where
   pub bytes : (k : ℕ) → at image k < 256
-  pub accepted : verdict_of image ≡ (Ok tt)
+  pub accepted : verdict_of image ≡ Ok tt
   pub text_is : text ≡ drawing_of (header_of image) (rows_of image)
 
 -- the form of a text that is read back: the drawing of some image that reads
@@ -43,7 +43,7 @@ pub record UndrawDone (text out : List ℕ) (written fences state : ℕ) (after 
 -- an image that is drawn, where the buffer has this room
 pub data DrawRefused (image : List ℕ) (room : ℕ) : Refusal → Type 0 where
   image_refused : {why : Refusal} → ImageRefused image why → DrawRefused image room why
-  too_small : verdict_of image ≡ (Ok tt) → room < length (drawing_of (header_of image) (rows_of image))
+  too_small : verdict_of image ≡ Ok tt → room < length (drawing_of (header_of image) (rows_of image))
       → DrawRefused image room Refusal.BufferTooSmall
 
 -- a text that is read back, where the buffer has this room
@@ -66,7 +66,7 @@ Kept k = (k < 7) ⊎ (((39 ≤ k) × (k < 510)) ⊎ (512 ≤ k))
 -- An image that has these names, and else is the other: the names stand at 7 to 22 and 23 to 38, zero-filled, block 0's check at 510 and 511, which
 -- is right, since the image reads.
 pub record Renamed (upstream target image other : List ℕ) : Type 0 where
-  pub accepted : verdict_of image ≡ (Ok tt)
+  pub accepted : verdict_of image ≡ Ok tt
   pub size : length image ≡ length other
   pub upstream_is : (k : ℕ) → k < 16 → at image (7 + k) ≡ at upstream k
   pub target_is : (k : ℕ) → k < 16 → at image (23 + k) ≡ at target k

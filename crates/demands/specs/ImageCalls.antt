@@ -26,7 +26,7 @@ pub data ImageRefused (image : List ℕ) : Refusal → Type 0 where
 -- a call that reads an image and writes it back, where the buffer has this room
 pub data ReadRefused (image : List ℕ) (room : ℕ) : Refusal → Type 0 where
   image_refused : {why : Refusal} → ImageRefused image why → ReadRefused image room why
-  too_small : verdict_of image ≡ (Ok tt) → room < length image → ReadRefused image room Refusal.BufferTooSmall
+  too_small : verdict_of image ≡ Ok tt → room < length image → ReadRefused image room Refusal.BufferTooSmall
 
 -- A byte of the stream stops the run: what stands before it leads to a state, and there is this fault with it in that state.
 pub record WalkStopsAt (image : List ℕ) (start : ℕ) (stream : List ℕ) (place : ℕ) (Fault : ℕ → ℕ → Type 0) : Type 0 where
@@ -54,15 +54,15 @@ WalkFault6 image b state = (k : Kind) × (byte_is b ≡ Some (Operation.Access k
 -- a run over an image: of a generated image the stream is refused as by the direct run
 pub data ImageRunRefused (image : List ℕ) (start : ℕ) (stream : List ℕ) (room : ℕ) : Refusal → Type 0 where
   image_refused : {why : Refusal} → ImageRefused image why → ImageRunRefused image start stream room why
-  no_such_state : verdict_of image ≡ (Ok tt) → states_of image ≤ start → ImageRunRefused image start stream room Refusal.OutOfRange
-  over_limit : verdict_of image ≡ (Ok tt) → start < states_of image → 4096 < length stream
+  no_such_state : verdict_of image ≡ Ok tt → states_of image ≤ start → ImageRunRefused image start stream room Refusal.OutOfRange
+  over_limit : verdict_of image ≡ Ok tt → start < states_of image → 4096 < length stream
       → ImageRunRefused image start stream room Refusal.OverLimit
-  no_operation : (place : ℕ) → verdict_of image ≡ (Ok tt) → start < states_of image → length stream ≤ 4096
+  no_operation : (place : ℕ) → verdict_of image ≡ Ok tt → start < states_of image → length stream ≤ 4096
       → WalkStopsAt image start stream place (WalkFault4 image) → ImageRunRefused image start stream room (Refusal.NoOperation place)
-  no_such_fence : (place : ℕ) → verdict_of image ≡ (Ok tt) → start < states_of image → length stream ≤ 4096
+  no_such_fence : (place : ℕ) → verdict_of image ≡ Ok tt → start < states_of image → length stream ≤ 4096
       → WalkStopsAt image start stream place (WalkFault5 image) → ImageRunRefused image start stream room (Refusal.NoSuchFence place)
-  no_fence_will_do : (place : ℕ) → verdict_of image ≡ (Ok tt) → start < states_of image → length stream ≤ 4096
+  no_fence_will_do : (place : ℕ) → verdict_of image ≡ Ok tt → start < states_of image → length stream ≤ 4096
       → WalkStopsAt image start stream place (WalkFault6 image) → ImageRunRefused image start stream room (Refusal.NoFenceWillDo place)
-  too_small : verdict_of image ≡ (Ok tt) → start < states_of image → length stream ≤ 4096 → (bytes : List ℕ) (fences state : ℕ)
+  too_small : verdict_of image ≡ Ok tt → start < states_of image → length stream ≤ 4096 → (bytes : List ℕ) (fences state : ℕ)
       → walked image start stream ≡ ended bytes fences state → room < length bytes
       → ImageRunRefused image start stream room Refusal.BufferTooSmall

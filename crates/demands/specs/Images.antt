@@ -38,7 +38,7 @@ entry_answer image state a =
 -- These bytes are the image of the minimal machine of two models: it is accepted, its header has their way, fences and names, and the entries of its
 -- states, as many as its byte 4 says, describe the rule's own machine.
 pub record MinimalImage (m : Models) (image : List ℕ) : Type 0 where
-  pub accepted : verdict_of image ≡ (Ok tt)
+  pub accepted : verdict_of image ≡ Ok tt
   pub way : at image 3 ≡ way_number m.way
   pub upstream_fences : upstream_fences_of image ≡ length (up m).fences
   pub target_fences : target_fences_of image ≡ length (on m).fences

@@ -2,14 +2,13 @@
 -- "text (1, 2, 3)"; "7 last". "Two models are compared by their ppo: equal, first stronger, second stronger, or neither; stronger means no cell
 -- lower and some cell higher."
 use Rattle.std.specs.Prelude.{ℕ, ◌<◌, ◌≤◌, List, length, Ok, Err}
-use Rattle.comparison.specs.Comparison.{Compared}
+use Rattle.comparison.specs.Comparison.{Compared, Compares}
 use Rattle.answers.specs.declared.Refusal.{Refusal}
 use Rattle.models.specs.declared.model.Model.{Model}
 use Rattle.models.specs.Text.{text_of}
 use Rattle.models.specs.Told.{Told, accepting, refusing}
 use Rattle.built_ins.specs.BuiltIns.{built_in}
 use Rattle.comparison.specs.declared.Comparison.{Comparison}
-use Rattle.comparison.specs.Comparison.{Compares}
 
 -- a text that is read and written back, where the buffer has this room
 pub data ModelRefused (text : List ℕ) (room : ℕ) : Refusal → Type 0 where

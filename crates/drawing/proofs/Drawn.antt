@@ -13,8 +13,7 @@ use Rattle.answers.proofs.Given.{delivers_as}
 use Rattle.operations.specs.Alphabet.{stride}
 use Rattle.layout.proofs.Faultless.{accepted_faultless}
 use Rattle.image.specs.declared.machine.Header.{Header}
-use Rattle.image.specs.Image.{Reading}
-use Rattle.image.specs.Image.{header_of, rows_of, Canonical, ReadsTo}
+use Rattle.image.specs.Image.{Reading, header_of, rows_of, Canonical, ReadsTo}
 use Rattle.image.proofs.Readings.{length-rows}
 use Rattle.image.proofs.Accepted.{canonical_read}
 use Rattle.image.proofs.WrittenBack.{given_refused, given_accepted, accepted, header_is, rows_are}

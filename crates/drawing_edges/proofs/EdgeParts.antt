@@ -19,8 +19,7 @@ use Rattle.operations.specs.Operation.{byte_of}
 use Rattle.operations.specs.Alphabet.{access_letters, operation_of}
 use Rattle.operations.proofs.Bytes.{low_fence, high_fence, no_fence_lem}
 use Rattle.printing.specs.Decimal.{decimal}
-use Rattle.texts.specs.Step.{Step}
-use Rattle.texts.specs.Step.{Part}
+use Rattle.texts.specs.Step.{Step, Part}
 use Rattle.texts.specs.Pattern.{is_word, follow_at}
 use Rattle.texts.specs.NumberPart.{is_digit, number_at}
 use Rattle.texts.specs.Language.{Telling, Any, Some, Unique}

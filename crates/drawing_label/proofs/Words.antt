@@ -5,8 +5,7 @@ use mathlib.Core.Path.{◌≡◌, sym, ◌∙◌, subst}
 use mathlib.Core.List.{List}
 use lib.Dec.{T}
 use Rattle.ground.specs.Bytes.{name_byte}
-use Rattle.texts.specs.Step.{Step}
-use Rattle.texts.specs.Step.{Part}
+use Rattle.texts.specs.Step.{Step, Part}
 use Rattle.texts.specs.Pattern.{is_word, follow_at}
 use Rattle.texts.specs.NamePart.{name_at}
 use Rattle.texts.specs.NumberPart.{number_at}

@@ -5,8 +5,7 @@ use Prim.Native.Nat.{ℕ, ◌+◌}
 use mathlib.Core.Path.{◌≡◌, sym, ap₂, ◌∙◌}
 use mathlib.Core.List.{List, ◌++◌}
 use native.Mathlib.Omega.{arith}
-use Rattle.texts.specs.Step.{Step}
-use Rattle.texts.specs.Step.{Part}
+use Rattle.texts.specs.Step.{Step, Part}
 use Rattle.texts.specs.Pattern.{follow_at}
 use Rattle.texts.specs.Telling.{Finds}
 use Rattle.texts.proofs.Telling.{finds_one}

@@ -10,8 +10,7 @@ use lib.ListN.{length, set, length-set}
 use lib.Seq.{get_or-set_same, get_or-set_other}
 use Rattle.ground.specs.Bytes.{at}
 use Rattle.operations.specs.Alphabet.{stride}
-use Rattle.texts.specs.Step.{Step}
-use Rattle.texts.specs.Step.{Part}
+use Rattle.texts.specs.Step.{Step, Part}
 use Rattle.texts.specs.Language.{Any, Some, Unique}
 use Rattle.texts.specs.Telling.{Items, part_taken, took, Finds}
 use Rattle.texts.proofs.Telling.{unique_items, some_items, items_none, items_more, items_stop}

@@ -13,8 +13,7 @@ use Rattle.ground.specs.Bytes.{at, bytes}
 use Rattle.answers.specs.declared.Refusal.{Refusal}
 use Rattle.operations.specs.Alphabet.{access_letters, stride}
 use Rattle.printing.specs.Turns.{in_turn}
-use Rattle.texts.specs.Step.{Step}
-use Rattle.texts.specs.Step.{Part}
+use Rattle.texts.specs.Step.{Step, Part}
 use Rattle.texts.specs.Language.{Telling, Longest, Any}
 use Rattle.texts.specs.Pattern.{follow_at}
 use Rattle.texts.specs.Telling.{After, Through, Word, Taken, took, stopped, Finds, finds, departs, word_taken}

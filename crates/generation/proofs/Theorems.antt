@@ -17,9 +17,8 @@ use Rattle.rule.specs.declared.way.Shim.{Shim}
 use Rattle.rule.specs.Pairs.{Model}
 use Rattle.rule.specs.Sides.{upstream_of, target_of}
 use Rattle.shims.specs.declared.Models.{Models}
-use Rattle.shims.specs.Opening.{Opening}
+use Rattle.shims.specs.Opening.{Opening, way_of, opened, Opens}
 use Rattle.shims.specs.Models.{model_of, shim_between}
-use Rattle.shims.specs.Opening.{way_of, opened, Opens}
 use Rattle.shims.proofs.Calls.{given_opened}
 use Rattle.shims.proofs.Fences.{few_read, few_fences}
 use Rattle.shims.proofs.Theorems.{opens}
@@ -86,7 +85,7 @@ module _ {number : ℕ} {upstream target image : List ℕ} (call : Imaged number
       (name_read target call.opens.target_read)
 
   -- A generated machine's image is accepted.
-  pub image_accepted : verdict_of image ≡ (Ok tt)
+  pub image_accepted : verdict_of image ≡ Ok tt
   image_accepted = ap verdict_of call.image_is ∙ read_written_accepted header call.rows laid_out
 
   -- It reads as the machine that was made.

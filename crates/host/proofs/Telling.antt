@@ -2,8 +2,7 @@
 use Prim.Native.Nat.{ℕ}
 use mathlib.Core.Path.{◌≡◌, refl, sym, ap, ◌∙◌}
 use mathlib.Core.List.{List}
-use Rattle.answers.specs.Answer.{Answer}
-use Rattle.answers.specs.Answer.{numbers_of}
+use Rattle.answers.specs.Answer.{Answer, numbers_of}
 use Rattle.answers.specs.Given.{Given, Delivers}
 use Rattle.answers.proofs.Given.{delivers_one}
 use Rattle.host.specs.Border.{number_in, Tells}

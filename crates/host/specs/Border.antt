@@ -2,8 +2,7 @@
 -- number is the first of the five numbers of an answer, and is returned too; 0 is success.
 use Rattle.std.specs.Prelude.{ℕ, ◌≡◌, List, Ok, Err}
 use Rattle.comparison.specs.Comparison.{Compared}
-use Rattle.answers.specs.Answer.{Answer, wrote}
-use Rattle.answers.specs.Answer.{number_of, numbers_of}
+use Rattle.answers.specs.Answer.{Answer, wrote, number_of, numbers_of}
 use Rattle.comparison.specs.Comparison as Comparison
 
 abbrev pub number_in : Answer → ℕ

@@ -234,7 +234,7 @@ module _ (h : Header) (rows : List ℕ) (can : Canonical h rows) where
   no_barred i l = good_as i (omega (arith, length_image)) (stands_at 1 i) (stands i) refl
 
   -- the image of a machine of the layout is accepted
-  pub canonical_accepted : verdict_of (image_of h rows) ≡ (Ok tt)
+  pub canonical_accepted : verdict_of (image_of h rows) ≡ Ok tt
   unfolding verdict_of
   canonical_accepted =
       rw (

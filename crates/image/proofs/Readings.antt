@@ -12,10 +12,9 @@ use Rattle.answers.specs.declared.Refusal.{Refusal}
 use Rattle.answers.specs.Answer.{Verdict}
 use Rattle.operations.specs.Alphabet.{stride}
 use Rattle.image.specs.declared.machine.Header.{Header}
-use Rattle.image.specs.Image.{Reading}
+use Rattle.image.specs.Image.{Reading, listed, header_of, row_word, rows_of, ReadsAs, ReadsTo}
 use Rattle.barred.specs.Barred.{states_of}
 use Rattle.layout.specs.Verdict.{verdict_of}
-use Rattle.image.specs.Image.{listed, header_of, row_word, rows_of, ReadsAs, ReadsTo}
 use Rattle.image.proofs.Fronts.{length-listed}
 
 pub length-rows : (image : List ℕ) → length (rows_of image) ≡ states_of image * stride

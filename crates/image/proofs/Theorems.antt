@@ -17,11 +17,11 @@ use Rattle.image.proofs.Canonicals.{length_image, canonical_accepted, same_heade
 
 module _ (image : List ℕ) (bytes : (i : ℕ) → at image i < 256) where
   -- Writing what was read gives the bytes back.
-  pub written_read : verdict_of image ≡ (Ok tt) → image_of (header_of image) (rows_of image) ≡ image
+  pub written_read : verdict_of image ≡ Ok tt → image_of (header_of image) (rows_of image) ≡ image
   written_read e = image_same image bytes (accepted_faultless image e)
 
   -- The images that are accepted are exactly those of the layout.
-  pub accepted_exactly : (verdict_of image ≡ (Ok tt) → LaidOut image) × (LaidOut image → verdict_of image ≡ (Ok tt))
+  pub accepted_exactly : (verdict_of image ≡ Ok tt → LaidOut image) × (LaidOut image → verdict_of image ≡ Ok tt)
   accepted_exactly = (
     (λ e.
         record {
@@ -35,7 +35,7 @@ module _ (image : List ℕ) (bytes : (i : ℕ) → at image i < 256) where
 
 -- Reading what was written gives the machine back; and what is written has the length that its states want.
 module _ (h : Header) (rows : List ℕ) (machine : Canonical h rows) where
-  pub read_written_accepted : verdict_of (image_of h rows) ≡ (Ok tt)
+  pub read_written_accepted : verdict_of (image_of h rows) ≡ Ok tt
   read_written_accepted = canonical_accepted h rows machine
 
   pub read_written_header : header_of (image_of h rows) ≡ h

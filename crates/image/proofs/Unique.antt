@@ -6,8 +6,7 @@ use Rattle.answers.specs.Given.{gives, Delivers}
 use Rattle.answers.specs.Answer.{Answer}
 use Rattle.answers.proofs.Given.{delivers_one}
 use Rattle.image.specs.declared.machine.Header.{Header}
-use Rattle.image.specs.Image.{Reading}
-use Rattle.image.specs.Image.{image_of, ReadsTo}
+use Rattle.image.specs.Image.{Reading, image_of, ReadsTo}
 use Rattle.image.specs.Calls.{header_as, Rewrites}
 
 pub read_one : (image rows : List ℕ) {after after' : List ℕ} {r r' : Reading} → ReadsTo image rows r after → ReadsTo image rows r' after'

@@ -13,16 +13,14 @@ use Rattle.ground.proofs.Truths.{differ}
 use Rattle.answers.specs.Buffer.{buffer_with}
 use Rattle.answers.specs.declared.Refusal.{Refusal}
 use Rattle.answers.specs.declared.Done.{Done}
-use Rattle.answers.specs.Answer.{Answer}
+use Rattle.answers.specs.Answer.{Answer, Verdict}
 use Rattle.answers.specs.Given.{Given, gives, refuses, Delivers, unless_refused}
 use Rattle.answers.proofs.Given.{refusal_delivered, delivers_as}
-use Rattle.answers.specs.Answer.{Verdict}
 use Rattle.operations.specs.Alphabet.{stride}
 use Rattle.image.specs.declared.machine.Header.{Header}
-use Rattle.image.specs.Image.{Reading}
+use Rattle.image.specs.Image.{Reading, image_of, header_of, rows_of, read_as, rows_as, ReadsTo}
 use Rattle.barred.specs.Barred.{states_of, upstream_fences_of, target_fences_of}
 use Rattle.layout.specs.Verdict.{verdict_of}
-use Rattle.image.specs.Image.{image_of, header_of, rows_of, read_as, rows_as, ReadsTo}
 use Rattle.image.specs.Calls.{written_back, header_as}
 use Rattle.image.proofs.Readings.{length-rows}
 use Rattle.image.proofs.Theorems.{written_read}

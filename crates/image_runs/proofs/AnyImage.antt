@@ -23,8 +23,7 @@ use Rattle.barred.specs.Barred.{states_of, upstream_fences_of, target_fences_of}
 use Rattle.layout.specs.Verdict.{verdict_of}
 use Rattle.layout.specs.inner.Faultless.{Faultless}
 use Rattle.layout.proofs.Faultless.{accepted_faultless, few_targets, entry_fence, entry_next, entry_onward}
-use Rattle.image_runs.specs.Run.{Step}
-use Rattle.image_runs.specs.Run.{access_step, step_as, step_at, puts, inserts, leads, Walked, ended, stopped, walked_on, resumed, walked}
+use Rattle.image_runs.specs.Run.{Step, access_step, step_as, step_at, puts, inserts, leads, Walked, ended, stopped, walked_on, resumed, walked}
 use Rattle.image_runs.proofs.Runs.{puts_few}
 
 -- a run that ends has put out at most so many bytes
@@ -120,7 +119,7 @@ module _ (image : List ℕ) (bytes : (i : ℕ) → at image i < 256) (faultless 
 
 -- For readers: over every accepted image, from any of its states, a run that ends ends in a state of the image, and the fences that it tells are the
 -- fence bytes that it put out.
-module _ (image : List ℕ) (bytes : (i : ℕ) → at image i < 256) (accepted : verdict_of image ≡ (Ok tt)) {s : ℕ} (start : s < states_of image)
+module _ (image : List ℕ) (bytes : (i : ℕ) → at image i < 256) (accepted : verdict_of image ≡ Ok tt) {s : ℕ} (start : s < states_of image)
     (stream : List ℕ) {out : List ℕ} {fences t : ℕ} (ran : walked image s stream ≡ ended out fences t) where
   found : (t < states_of image) × (fences ≡ fence_bytes out)
   found = subst (Whole image) ran (whole image bytes (accepted_faultless image accepted) stream s start)

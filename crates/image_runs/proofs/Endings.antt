@@ -7,8 +7,7 @@ use native.Mathlib.Omega.{arith}
 use borrow.Author.Tests.{lt-ltb, le-ltb, le-leb, lt-leb}
 use lib.ListN.{length, take}
 use Rattle.answers.specs.declared.Refusal.{Refusal}
-use Rattle.answers.specs.Answer.{Answer}
-use Rattle.answers.specs.Answer.{Verdict}
+use Rattle.answers.specs.Answer.{Answer, Verdict}
 use Rattle.answers.specs.Given.{gives, refuses, Delivers}
 use Rattle.answers.proofs.Given.{delivers_refusal, refusal_delivered, delivers_as}
 use Rattle.image_runs.specs.declared.Stop.{Stop}

@@ -9,9 +9,8 @@ use lib.ListN.{length, set, take, drop, get_or, length-set, drop_of_length-le}
 use lib.Seq.{take-suc-set, drop-cons}
 use Rattle.image_runs.specs.declared.Stop.{Stop}
 use Rattle.image_runs.specs.declared.Move.{Move}
-use Rattle.image_runs.specs.Run.{Step}
+use Rattle.image_runs.specs.Run.{Step, step_at, puts, inserts, leads, Walked, ended, stopped, walked_on, resumed, walked}
 use Rattle.image_runs.specs.declared.Progress.{Progress}
-use Rattle.image_runs.specs.Run.{step_at, puts, inserts, leads, Walked, ended, stopped, walked_on, resumed, walked}
 use Rattle.image_runs.specs.inner.Walking.{Moved, Going}
 
 module _ (p : Progress) (b : ℕ) (room : List ℕ) (m : Move) where

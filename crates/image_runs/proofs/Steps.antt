@@ -12,10 +12,9 @@ use Rattle.operations.specs.declared.Operation.{Operation}
 use Rattle.operations.specs.Operation.{byte_is, fence_byte}
 use Rattle.image_runs.specs.declared.Stop.{Stop}
 use Rattle.image_runs.specs.declared.Move.{Move}
-use Rattle.image_runs.specs.Run.{Step}
+use Rattle.image_runs.specs.Run.{Step, access_step, step_as, step_at}
 use Rattle.places.specs.Layout.{entry_start, position}
 use Rattle.barred.specs.Barred.{upstream_fences_of}
-use Rattle.image_runs.specs.Run.{access_step, step_as, step_at}
 use Rattle.image_runs.specs.inner.Walking.{Small}
 
 module _ (fence next : ℕ) (small : next < 256) where

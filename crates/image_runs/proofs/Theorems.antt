@@ -5,8 +5,7 @@ use mathlib.Core.Path.{◌≡◌, refl, sym, ap, ◌∙◌}
 use mathlib.Core.List.{List, [], ◌∷◌, ◌++◌}
 use native.Mathlib.Omega.{arith}
 use lib.ListN.{length}
-use Rattle.image_runs.specs.Run.{Step}
-use Rattle.image_runs.specs.Run.{step_at, puts, inserts, leads, Walked, ended, stopped, walked_on, resumed, walked, then}
+use Rattle.image_runs.specs.Run.{Step, step_at, puts, inserts, leads, Walked, ended, stopped, walked_on, resumed, walked, then}
 use Rattle.image_runs.proofs.Runs.{walked_further, walked_none}
 
 walked_then : (k i : ℕ) (put : List ℕ) (r : Walked) (rest : ℕ → Walked) → walked_on 1 put i (then k r rest) ≡ then (suc k) (walked_on 1 put i r) rest

@@ -29,19 +29,19 @@ use Rattle.layout.proofs.Failing.{neither, chosen, equal}
 use Rattle.places.proofs.Standing.{fence_at, next_at_lem, onward_at, within_image}
 
 -- the stages of an acceptance
-staged : (f g : Option ℕ) → stages f g ≡ (Ok tt) → (f ≡ None) × (g ≡ None)
+staged : (f g : Option ℕ) → stages f g ≡ Ok tt → (f ≡ None) × (g ≡ None)
 staged (Some b) g e = differ (cc)
 staged None (Some i) e = differ (cc)
 staged None None e = (refl, refl)
 
-pub accepted_faultless : (image : List ℕ) → verdict_of image ≡ (Ok tt) → Faultless image
+pub accepted_faultless : (image : List ℕ) → verdict_of image ≡ Ok tt → Faultless image
 unfolding verdict_of
 accepted_faultless image e = go (ltb limit (length image)) refl e
   where
     go : (t : Bool) → ltb limit (length image) ≡ t
         → cond t (Err Refusal.OverLimit)
         (stages (lowest_wrong image) (lowest_barred image))
-        ≡ (Ok tt)
+        ≡ Ok tt
         → Faultless image
     go true h w = differ (cc)
     go false h w =

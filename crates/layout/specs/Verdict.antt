@@ -24,7 +24,7 @@ lowest_barred image = lowest (barred image) 0 (length image)
 abbrev pub stages : Option ℕ → Option ℕ → Verdict
 stages (Some b) byte = Err (Refusal.BrokenBlock b)
 stages None (Some i) = Err (Refusal.BarredValue i)
-stages None None = (Ok tt)
+stages None None = Ok tt
 
 unfoldable pub verdict_of : List ℕ → Verdict
 verdict_of image =

@@ -11,8 +11,7 @@ use lib.ListN.{length, take}
 use Rattle.machine.specs.Outcome.{Outcome}
 use Rattle.ground.specs.Bytes.{at}
 use Rattle.answers.specs.declared.Refusal.{Refusal}
-use Rattle.answers.specs.Answer.{Answer}
-use Rattle.answers.specs.Answer.{number_of, place_of}
+use Rattle.answers.specs.Answer.{Answer, number_of, place_of}
 use Rattle.answers.specs.Given.{gives, refuses, Delivers, Answers}
 use Rattle.operations.specs.Alphabet.{letters_with, stride}
 use Rattle.rule.specs.declared.way.Way.{Way}

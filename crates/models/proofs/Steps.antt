@@ -21,9 +21,8 @@ use Rattle.texts.proofs.Steps.{name_past}
 use Rattle.models.specs.declared.scan.Line.{Line}
 use Rattle.models.specs.declared.model.Name.{Name}
 use Rattle.models.specs.declared.model.Model.{Model}
-use Rattle.models.specs.Told.{Reading}
+use Rattle.models.specs.Told.{Reading, refusing}
 use Rattle.models.specs.declared.reader.Progress.{Progress}
-use Rattle.models.specs.Told.{refusing}
 use Rattle.models.specs.inner.Lines.{table_pattern, then_line, line_end, ppo_at, head_from, fence_line_from, NameEnds}
 use Rattle.models.specs.inner.Progress.{formless, on_line, repeat_place, stored, with_fence}
 use Rattle.models.specs.Reading.{head_at, fence_at, name_in, table_in, fence_from, ended, lines_from, after_head, reading}

@@ -8,8 +8,7 @@ use Rattle.answers.specs.declared.Refusal.{Refusal}
 use Rattle.tables.specs.declared.table.Table.{Table}
 use Rattle.models.specs.declared.model.Name.{Name}
 use Rattle.models.specs.declared.model.Model.{Model}
-use Rattle.models.specs.Told.{Reading}
-use Rattle.models.specs.Told.{filled, bare, refusing, Told}
+use Rattle.models.specs.Told.{Reading, filled, bare, refusing, Told}
 use Rattle.models.proofs.Words.{told_is}
 
 pub first_bytes_one : (text : List ℕ) {r r' : Name} → r ≡ filled (take 16 text) → r' ≡ filled (take 16 text) → r ≡ r'

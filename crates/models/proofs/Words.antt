@@ -12,11 +12,10 @@ use Rattle.answers.specs.declared.Refusal.{Refusal}
 use Rattle.texts.specs.Language.{Longest, Judged}
 use Rattle.texts.proofs.Language.{longest_one, judged_iff}
 use Rattle.models.specs.declared.model.Model.{Model}
-use Rattle.models.specs.Told.{Reading}
+use Rattle.models.specs.Told.{Reading, held, accepting, refusing, name_stands, EarliestRepeat, Told, over, departs, repeated, accepted}
 use Rattle.models.specs.Model.{Description, Formed}
 use Rattle.models.specs.Text.{text_of}
 use Rattle.models.specs.Form.{Form}
-use Rattle.models.specs.Told.{held, accepting, refusing, name_stands, EarliestRepeat, Told, over, departs, repeated, accepted}
 use Rattle.models.specs.inner.Progress.{formless, on_line, finished}
 use Rattle.models.specs.inner.Parts.{TextForm}
 use Rattle.models.specs.Reading.{head_at, after_head, reading}

@@ -13,9 +13,8 @@ use Rattle.texts.specs.Pattern.{follow_at}
 use Rattle.texts.specs.NamePart.{name_run}
 use Rattle.models.specs.declared.scan.Line.{Line}
 use Rattle.models.specs.declared.model.Name.{Name}
-use Rattle.models.specs.Told.{Reading}
+use Rattle.models.specs.Told.{Reading, filled, refusing}
 use Rattle.models.specs.declared.reader.Progress.{Progress}
-use Rattle.models.specs.Told.{filled, refusing}
 use Rattle.models.specs.inner.Lines.{then_line, head_from, fence_line_from}
 use Rattle.models.specs.inner.Progress.{formless, on_line, started, with_fence, finished}
 

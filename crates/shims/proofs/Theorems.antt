@@ -7,9 +7,8 @@ use Rattle.ground.proofs.Truths.{differ}
 use Rattle.rule.specs.declared.way.Way.{Way}
 use Rattle.rule.specs.Rule.{way_number}
 use Rattle.models.specs.declared.model.Model.{Model}
-use Rattle.models.specs.Told.{Reading}
+use Rattle.models.specs.Told.{Reading, accepting}
 use Rattle.models.specs.Reading.{reading}
-use Rattle.models.specs.Told.{accepting}
 use Rattle.shims.specs.declared.Models.{Models}
 use Rattle.shims.specs.Opening.{Opening, way_of, opening, on_reading, on_target, opened_by, Opens}
 

@@ -7,9 +7,8 @@ use lib.ListN.{take}
 use Rattle.rule.specs.declared.way.Shim.{Shim}
 use Rattle.rule.specs.declared.way.Way.{Way}
 use Rattle.shims.specs.declared.Models.{Models}
-use Rattle.shims.specs.Opening.{Opening}
+use Rattle.shims.specs.Opening.{Opening, way_of, opened_by, opened}
 use Rattle.shims.specs.Models.{shim_between}
-use Rattle.shims.specs.Opening.{way_of, opened_by, opened}
 
 pub way_of_one : (number : ℕ) {r r' : Option Way} → r ≡ way_of number → r' ≡ way_of number → r ≡ r'
 way_of_one number p q = p ∙ sym q

@@ -5,9 +5,8 @@ use Rattle.answers.specs.declared.Refusal.{Refusal}
 use Rattle.answers.specs.Given.{Given, unless_refused, GivenUnless}
 use Rattle.rule.specs.declared.way.Way.{Way}
 use Rattle.models.specs.declared.model.Model.{Model}
-use Rattle.models.specs.Told.{Reading}
+use Rattle.models.specs.Told.{Reading, accepting}
 use Rattle.models.specs.Reading.{reading}
-use Rattle.models.specs.Told.{accepting}
 use Rattle.shims.specs.declared.Models.{Models}
 
 abbrev pub way_of : ℕ → Option Way

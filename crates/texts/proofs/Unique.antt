@@ -2,8 +2,7 @@
 use Prim.Native.Nat.{ℕ}
 use mathlib.Core.Path.{◌≡◌, sym, ◌∙◌}
 use mathlib.Core.List.{List}
-use Rattle.texts.specs.Step.{Step}
-use Rattle.texts.specs.Step.{Part}
+use Rattle.texts.specs.Step.{Step, Part}
 use Rattle.texts.specs.Pattern.{follow_at}
 use Rattle.texts.specs.NamePart.{name_at}
 use Rattle.texts.specs.NumberPart.{number_at}

@@ -1,8 +1,7 @@
 -- Parts of a text that tell something: a number, a name, the words of a row. How they are put together, and what reading one finds.
 use Rattle.std.specs.Prelude.{ℕ, zero, suc, ◌+◌, ◌≤◌, ◌<◌, ◌≡◌, List, [], ◌∷◌, ◌++◌, ◌⊎◌, length, take, drop, Ok, Err}
 use Rattle.printing.specs.Decimal.{decimal}
-use Rattle.texts.specs.Step.{Step}
-use Rattle.texts.specs.Step.{Part}
+use Rattle.texts.specs.Step.{Step, Part}
 use Rattle.texts.specs.Language.{Longest, Seq, Telling, Any}
 use Rattle.texts.specs.NamePart.{NameFormed, name_run}
 

@@ -14,13 +14,12 @@ use Rattle.answers.specs.declared.Refusal.{Refusal}
 use Rattle.printing.specs.Name.{unfilled}
 use Rattle.models.specs.declared.model.Name.{Name}
 use Rattle.models.specs.declared.model.Model.{Model}
-use Rattle.models.specs.Told.{Reading}
+use Rattle.models.specs.Told.{Reading, held, accepting, refusing, Distinct, Told, over, departs, repeated, accepted, packed_of, held_name}
 use Rattle.models.specs.Model.{Fence, Description, FenceFormed, Formed}
 use Rattle.models.specs.Text.{text_of}
 use Rattle.models.specs.Reading.{reading}
 use Rattle.writing.specs.Writing.{fences_of, described}
 use Rattle.models.proofs.Words.{told, told_is}
-use Rattle.models.specs.Told.{held, accepting, refusing, Distinct, Told, over, departs, repeated, accepted, packed_of, held_name}
 use Rattle.texts.specs.NamePart.{Each, NameBytes}
 use Rattle.writing.proofs.Short.{text_short}
 

@@ -3,9 +3,8 @@ use Rattle.std.specs.Prelude.{ℕ, ◌+◌, ◌*◌, ◌<◌, ◌≤◌, ◌≡�
 use Rattle.answers.specs.declared.Refusal.{Refusal}
 use Rattle.answers.specs.Given.{refuses}
 use Rattle.image_runs.specs.declared.Move.{Move}
-use Rattle.image_runs.specs.Run.{Step}
+use Rattle.image_runs.specs.Run.{Step, puts, inserts, leads, Walked, ended, walked_on, walked, outcome_of}
 use Rattle.image_runs.specs.declared.Progress.{Progress}
-use Rattle.image_runs.specs.Run.{puts, inserts, leads, Walked, ended, walked_on, walked, outcome_of}
 
 -- where a step leads is a byte
 abbrev pub Small : Step → Type 0

@@ -7,9 +7,8 @@ use Rattle.tables.specs.declared.table.Table.{Table}
 use Rattle.models.specs.declared.scan.Line.{Line}
 use Rattle.models.specs.declared.model.Name.{Name}
 use Rattle.models.specs.declared.model.Model.{Model}
-use Rattle.models.specs.Told.{Reading}
+use Rattle.models.specs.Told.{Reading, bare, accepting, refusing}
 use Rattle.models.specs.declared.reader.Progress.{Progress}
-use Rattle.models.specs.Told.{bare, accepting, refusing}
 
 -- refused where the text departs from the form
 abbrev pub formless : ℕ → Reading

@@ -21,7 +21,7 @@ loop-name-preserved c =
     let turn =
     YieldsList-turn
     (YieldsList-from_take {s = c.into_iter-name-iterator.result} a.fences
-        (YieldsList-from_zip (YieldsList-from_slice a.names (cc)) (YieldsList-from_slice a.tables (cc))) (search rules))
+    (YieldsList-from_zip (YieldsList-from_slice a.names (cc)) (YieldsList-from_slice a.tables (cc))) (search rules))
     l.yielded l.name-iterator l.yielded_by c.next.result c.next.new.self (c.in-Some.name, c.in-Some.packed) c.in-Some.is c.next.ensures.steps in
     put_is (ap (λ (n : ℕ). fences_text (fences_of n a.names a.tables)) (sym (length-append l.yielded ((c.in-Some.name, c.in-Some.packed) ∷ []))))
     (line_next a.names a.tables a.fences (length l.yielded) c.in-Some.name.now c.in-Some.packed.now turn.0 turn.1 l.invariant c.put_line.ensures)
@@ -33,7 +33,7 @@ returns c =
     let end =
     YieldsList-end
     (YieldsList-from_take {s = c.into_iter-name-iterator.result} a.fences
-        (YieldsList-from_zip (YieldsList-from_slice a.names (cc)) (YieldsList-from_slice a.tables (cc))) (search rules))
+    (YieldsList-from_zip (YieldsList-from_slice a.names (cc)) (YieldsList-from_slice a.tables (cc))) (search rules))
     l.yielded l.name-iterator l.yielded_by c.next.result c.next.new.self c.in-None.is c.next.ensures.steps in
     lines_put a.names a.tables (length l.yielded) a.fences
     (omega (arith, end.1, length-take a.fences (zip a.names a.tables), length-zip a.names a.tables)) l.invariant
