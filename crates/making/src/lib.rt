@@ -10,12 +10,6 @@ use shims::Models;
 pub fn make(models: Models, rows: &mut [u16]) -> Outcome
     ensures { MachineMade models rows.old result rows.new }
 {
-    let shim = shims::shim_between(models);
-    let upstream = models.upstream;
-    let ups = upstream.tables;
-    let fences = shims::fences_of(&ups, upstream.fences);
-    let target = models.target;
-    let offers = target.tables;
-    let targets = shims::fences_of(&offers, target.fences);
-    machine::generate(shim, fences, targets, rows)
+    let sides = shims::sides_of(&models);
+    machine::generate(sides.shim, sides.fences, sides.targets, rows)
 }

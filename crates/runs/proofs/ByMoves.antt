@@ -13,13 +13,15 @@ use Rattle.operations.specs.Operation.{access_byte, fence_byte, byte_of}
 use Rattle.rule.specs.declared.situation.Situation.{Situation}
 use Rattle.rule.specs.declared.way.Way.{Way}
 use Rattle.rule.specs.declared.way.Step.{Step}
+use Rattle.rule.specs.Sides.{upstream_of, target_of}
 use Rattle.rule.specs.Stream.{Stream, access, fence}
 use Rattle.rule.specs.Pairs.{Model, fence_table}
 use Rattle.rule.specs.Rule.{Ran, done, refused, behind}
 use Rattle.rule.specs.Situation.{asks, fresh, stepped, resumed, steps}
 use Rattle.rule.proofs.Theorems.{steps_are_the_rule}
+use Rattle.shims.specs.declared.Sides.{Sides}
 use Rattle.runs.specs.Bytes.{Judged, good, bad, judged, operations, operations_from, fault, fault_from, puts, outcome_of, direct}
-use Rattle.runs.specs.inner.Moves.{moved_by, moved_as, ahead, moves_on, moves}
+use Rattle.runs.specs.inner.Moves.{moved_by, moved_as, ahead, moves_on, moves, for_sides}
 use Rattle.runs.proofs.Ahead.{ahead_none, ahead_puts}
 use Rattle.runs.proofs.Judging.{good_byte}
 
@@ -70,3 +72,7 @@ module _ (way : Way) (up target : Model) where
       ap (λ (x : Ran). outcome_of 0 x (fault (length up.fences) 0 bytes))
       (steps_are_the_rule way up target (operations (length up.fences) 0 bytes))
       ∙ from_here bytes fresh 0
+
+-- the same of two sides
+pub direct_between : (s : Sides) (bytes : List ℕ) → for_sides direct s bytes ≡ for_sides moves s fresh 0 bytes
+direct_between s bytes = direct_moves s.shim.way (upstream_of s.shim s.fences.now) (target_of s.shim s.targets.now) bytes

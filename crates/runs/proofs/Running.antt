@@ -11,14 +11,14 @@ use Rattle.answers.specs.declared.Refusal.{Refusal}
 use Rattle.answers.specs.Given.{Given}
 use Rattle.operations.specs.Operation.{fence_byte}
 use Rattle.rule.specs.declared.situation.Situation.{Situation}
-use Rattle.rule.specs.declared.way.Shim.{Shim}
 use Rattle.rule.specs.Situation.{fresh}
+use Rattle.shims.specs.declared.Sides.{Sides}
 use Rattle.runs.proofs.Ahead.{ahead_none, ahead_puts, ahead_ahead}
 use Rattle.runs.specs.Bytes.{puts}
 use Rattle.runs.specs.declared.Move.{Move}
 use Rattle.runs.specs.declared.Progress.{Progress}
 use Rattle.runs.specs.inner.Laying.{turned, laid, Ends}
-use Rattle.runs.specs.inner.Moves.{moved, ahead, moves_on, moves, for_shim}
+use Rattle.runs.specs.inner.Moves.{moved, ahead, moves_on, moves, for_sides}
 
 -- one byte laid behind n, and two
 laid_one : (l : List ℕ) (n b : ℕ) → n < length l → take (n + 1) (set l n b) ≡ take n l ++ (b ∷ [])
@@ -32,19 +32,19 @@ laid_two l n f b h =
     ∙ ap (λ (q : List ℕ). q ++ (b ∷ [])) (laid_one l n f (omega arith))
     ∙ append_assoc (take n l) (f ∷ []) (b ∷ [])
 
-module _ (shim : Shim) (fences targets stream : List ℕ) where
+module _ (sides : Sides) (stream : List ℕ) where
   -- the whole run, the run from an index on, the byte that stands there, and what it does
   abbrev pub whole : Given
-  whole = for_shim moves shim fences targets fresh 0 stream
+  whole = for_sides moves sides fresh 0 stream
 
   abbrev from : ℕ → Situation → Given
-  from at s = for_shim moves shim fences targets s at (drop at stream)
+  from at s = for_sides moves sides s at (drop at stream)
 
   abbrev byte : ℕ → ℕ
   byte at = get_or stream at 0
 
   abbrev pub move : Situation → ℕ → Result Move Refusal
-  move s at = for_shim moved shim fences targets s at (byte at)
+  move s at = for_sides moved sides s at (byte at)
 
   -- where the run has come to: before index `at`, in this situation, with so many bytes laid
   pub record Running (situation : Situation) (written at : ℕ) (buffer : List ℕ) : Type 0 where
@@ -62,7 +62,7 @@ module _ (shim : Shim) (fences targets stream : List ℕ) where
     unfolding moves
     turns l =
         run.all
-        ∙ ap (λ (s : List ℕ). ahead (take written buffer) (for_shim moves shim fences targets situation at s)) (drop-cons stream at 0 l)
+        ∙ ap (λ (s : List ℕ). ahead (take written buffer) (for_sides moves sides situation at s)) (drop-cons stream at 0 l)
         ∙ ap (λ (n : ℕ). ahead (take written buffer) (moves_on (byte at) (from n) (move situation at))) (sym (add-one at))
 
     -- what a byte does once its move is known
@@ -77,7 +77,7 @@ module _ (shim : Shim) (fences targets stream : List ℕ) where
           fits = omega (arith, run.here, run.room, run.size);
           is =
               run.all
-              ∙ ap (λ (s : List ℕ). ahead (take written buffer) (for_shim moves shim fences targets situation at s)) (drop_of_length-le stream l)
+              ∙ ap (λ (s : List ℕ). ahead (take written buffer) (for_sides moves sides situation at s)) (drop_of_length-le stream l)
               ∙ ahead_puts (take written buffer) []
               ∙ ap puts (append-nil (take written buffer));
         }

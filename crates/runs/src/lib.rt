@@ -4,18 +4,17 @@
 ghost use Rattle.std.specs.Prelude.{◌+◌, ◌≤◌, ◌<◌, ◌≡◌, ◌==◌, length};
 ghost use Rattle.answers.specs.Given.{Delivers};
 ghost use Rattle.operations.specs.Operation.{byte_is, is_fence, fence_bytes};
-ghost use Rattle.rule.specs.Sides.{target_of};
-ghost use Rattle.rule.specs.Situation.{fresh, stepped};
+ghost use Rattle.rule.specs.Situation.{fresh};
 ghost use Rattle.runs.specs.Bytes.{direct};
 ghost use Rattle.runs.specs.Call.{run_given, outcome};
 ghost use Rattle.runs.specs.inner.Laying.{turned, laid, given, Fits, Ends};
-ghost use Rattle.runs.specs.inner.Moves.{moved, moves, moved_by, asked, for_shim};
+ghost use Rattle.runs.specs.inner.Moves.{moved, moves, accessed, asked, for_sides};
 
 use answers::{Answer, Refusal};
 use operations::{Kind, Operation};
 use rule::situation::Situation;
-use rule::way::{Shim, Step};
-use shims::Models;
+use rule::way::Step;
+use shims::{Models, Sides};
 
 // What one byte of a stream does: it is passed over, or put out with nothing or with a fence before it.
 #[derive(Drop)]
@@ -47,16 +46,15 @@ fn is_fence(byte: u8) -> bool
 }
 
 // What an access does, at its index.
-fn access(
-    shim: Shim,
-    targets: &[u64],
+fn access<'a>(
+    sides: Sides<'a>,
     situation: Situation,
     at: usize,
     kind: Kind,
 ) -> Result<Move, Refusal>
-    ensures { result ≡ moved_by at (stepped shim.way shim.upstream (target_of shim targets.now) situation kind) }
+    ensures { result ≡ for_sides accessed sides.entry situation at kind }
 {
-    match rule::way::take(shim, targets, situation, kind) {
+    match rule::way::take(sides.shim, sides.targets, situation, kind) {
         Step::Plain(next) => Ok(Move::Plain(next)),
         Step::Fenced(g, next) => Ok(Move::Fenced(g, next)),
         Step::Refused => Err(Refusal::NoFenceWillDo(at)),
@@ -75,19 +73,12 @@ fn ask(fences: &[u64], situation: Situation, at: usize, number: usize) -> Result
 }
 
 // What a byte does, at its index.
-fn advance<'a>(
-    shim: Shim,
-    fences: &'a [u64],
-    targets: &'a [u64],
-    situation: Situation,
-    at: usize,
-    byte: u8,
-) -> Result<Move, Refusal>
-    ensures { result ≡ for_shim moved shim fences.now targets.now situation at byte }
+fn advance<'a>(sides: Sides<'a>, situation: Situation, at: usize, byte: u8) -> Result<Move, Refusal>
+    ensures { result ≡ for_sides moved sides.entry situation at byte }
 {
     match operations::read_byte(byte).ok_or(Refusal::NoOperation(at))? {
-        Operation::Access(kind) => access(shim, targets, situation, at, kind),
-        Operation::Fence(number) => ask(fences, situation, at, number),
+        Operation::Access(kind) => access(sides, situation, at, kind),
+        Operation::Fence(number) => ask(sides.fences, situation, at, number),
     }
 }
 
@@ -118,20 +109,14 @@ fn lay(step: Move, byte: u8, written: usize, buffer: &mut [u8]) -> Progress
 }
 
 // Runs the stream from the fresh situation, into a buffer that holds two bytes for each operation, and tells how many bytes are put out.
-fn run_stream<'a>(
-    shim: Shim,
-    fences: &'a [u64],
-    targets: &'a [u64],
-    stream: &'a [u8],
-    buffer: &mut [u8],
-) -> Result<usize, Refusal>
+fn run_stream<'a>(sides: Sides<'a>, stream: &'a [u8], buffer: &mut [u8]) -> Result<usize, Refusal>
     requires { (length stream.now ≤ 4096) × (length buffer.old ≡ 8192) }
-    ensures { Ends (for_shim moves shim fences.now targets.now fresh 0 stream.now) result buffer.new }
+    ensures { Ends (for_sides moves sides.entry fresh 0 stream.now) result buffer.new }
 {
     let mut situation = Situation::FRESH;
     let mut written = 0;
     for (at, &byte) in stream.iter().enumerate() {
-        let step = advance(shim, fences, targets, situation, at, byte)?;
+        let step = advance(sides, situation, at, byte)?;
         let next = lay(step, byte, written, buffer);
         situation = next.situation;
         written = next.written;
@@ -140,19 +125,13 @@ fn run_stream<'a>(
 }
 
 // The run of a stream within its limit. It owns the buffer that the run is laid into, so that a refusal writes nothing.
-fn run_within<'a>(
-    shim: Shim,
-    fences: &'a [u64],
-    targets: &'a [u64],
-    stream: &'a [u8],
-    out: &mut [u8],
-) -> Answer
+fn run_within<'a>(sides: Sides<'a>, stream: &'a [u8], out: &mut [u8]) -> Answer
     requires { length stream.now ≤ 4096 }
-    ensures { Delivers (for_shim direct shim fences.now targets.now stream.now)
+    ensures { Delivers (for_sides direct sides.entry stream.now)
         out.old result out.new }
 {
     let mut buffer = [0u8; 8192];
-    let written = run_stream(shim, fences, targets, stream, &mut buffer)?;
+    let written = run_stream(sides, stream, &mut buffer)?;
     let bytes = &buffer[..written];
     answers::write_out(bytes, fences_in(bytes), 0, out)
 }
@@ -164,10 +143,7 @@ pub fn run_models(models: Models, stream: &[u8], out: &mut [u8]) -> Answer
     if 4096 < stream.len() {
         return Err(Refusal::OverLimit);
     }
-    let shim = shims::shim_between(models);
-    let fences = shims::fences_of(&models.upstream.tables, models.upstream.fences);
-    let targets = shims::fences_of(&models.target.tables, models.target.fences);
-    run_within(shim, fences, targets, stream, out)
+    run_within(shims::sides_of(&models), stream, out)
 }
 
 // The direct run of a stream: two model texts, a way by its number, the stream, and the buffer that gets the output.

@@ -7,8 +7,9 @@ use lib.ListN.{take}
 use Rattle.rule.specs.declared.way.Shim.{Shim}
 use Rattle.rule.specs.declared.way.Way.{Way}
 use Rattle.shims.specs.declared.Models.{Models}
+use Rattle.shims.specs.declared.Sides.{Sides}
 use Rattle.shims.specs.Opening.{Opening, way_of, opened_by, opened}
-use Rattle.shims.specs.Models.{shim_between}
+use Rattle.shims.specs.Models.{model_of, shim_between}
 
 pub way_of_one : (number : ℕ) {r r' : Option Way} → r ≡ way_of number → r' ≡ way_of number → r ≡ r'
 way_of_one number p q = p ∙ sym q
@@ -18,6 +19,12 @@ fences_of_one tables count p q = p ∙ sym q
 
 pub shim_between_one : (models : Models) {r r' : Shim} → r ≡ shim_between models → r' ≡ shim_between models → r ≡ r'
 shim_between_one models p q = p ∙ sym q
+
+pub sides_of_one : (models : Models) (r r' : Sides)
+    → (r.shim ≡ shim_between models) × (r.fences.now ≡ (model_of models.upstream).fences) × (r.targets.now ≡ (model_of models.target).fences)
+    → (r'.shim ≡ shim_between models) × (r'.fences.now ≡ (model_of models.upstream).fences) × (r'.targets.now ≡ (model_of models.target).fences)
+    → (r.shim ≡ r'.shim) × (r.fences.now ≡ r'.fences.now) × (r.targets.now ≡ r'.targets.now)
+sides_of_one models r r' (s, f, t) (s', f', t') = (s ∙ sym s', f ∙ sym f', t ∙ sym t')
 
 pub read_texts_one : (way : Way) (upstream target : List ℕ) {r r' : Opening} → r ≡ opened_by (Some way) upstream target
     → r' ≡ opened_by (Some way) upstream target → r ≡ r'

@@ -4,7 +4,7 @@
 
 ghost use Rattle.std.specs.Prelude.{◌≡◌, take, Some};
 ghost use Rattle.shims.specs.Opening.{way_of, opened_by, opened};
-ghost use Rattle.shims.specs.Models.{shim_between};
+ghost use Rattle.shims.specs.Models.{model_of, shim_between};
 
 use answers::Refusal;
 use models::model::Model;
@@ -16,6 +16,14 @@ pub struct Models {
     pub way: Way,
     pub upstream: Model,
     pub target: Model,
+}
+
+// What two models are to the rule: the shim between them, and the tables of each side's fences, which are lent.
+#[derive(Clone, Copy)]
+pub struct Sides<'a> {
+    pub shim: Shim,
+    pub fences: &'a [u64],
+    pub targets: &'a [u64],
 }
 
 // What a call opens with.
@@ -47,6 +55,19 @@ pub fn shim_between(models: Models) -> Shim
         way: models.way,
         upstream: models.upstream.ppo,
         target: models.target.ppo,
+    }
+}
+
+// The shim between two models, with the fences of each.
+pub fn sides_of(models: &Models) -> Sides<'_>
+    ensures shim { result.shim ≡ shim_between models.now }
+    ensures fences { result.fences.now ≡ (model_of models.now.upstream).fences }
+    ensures targets { result.targets.now ≡ (model_of models.now.target).fences }
+{
+    Sides {
+        shim: shim_between(*models),
+        fences: fences_of(&models.upstream.tables, models.upstream.fences),
+        targets: fences_of(&models.target.tables, models.target.fences),
     }
 }
 

@@ -4,4 +4,4 @@ use Rattle.runs.proofs.run_stream.Given as goal
 
 abbrev pub invariant-loop-at : goal.invariant-loop-at
 invariant-loop-at l =
-    Running l.shim l.fences l.targets l.stream l.situation l.written l.at l.buffer
+    Running l.sides l.stream l.situation l.written l.at l.buffer

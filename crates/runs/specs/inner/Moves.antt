@@ -2,15 +2,16 @@
 use Rattle.std.specs.Prelude.{ℕ, suc, ◌+◌, cond, List, [], ◌∷◌, ◌++◌, ltb, length, Result, Ok, Err}
 use Rattle.answers.specs.declared.Refusal.{Refusal}
 use Rattle.answers.specs.Given.{Given, gives, refuses}
+use Rattle.operations.specs.declared.Kind.{Kind}
 use Rattle.operations.specs.declared.Operation.{Operation}
 use Rattle.operations.specs.Operation.{fence_byte, fence_bytes}
 use Rattle.rule.specs.declared.situation.Situation.{Situation}
 use Rattle.rule.specs.declared.way.Way.{Way}
-use Rattle.rule.specs.declared.way.Shim.{Shim}
 use Rattle.rule.specs.Sides.{upstream_of, target_of}
 use Rattle.rule.specs.declared.way.Step.{Step}
 use Rattle.rule.specs.Pairs.{Model, table_at, fence_table}
 use Rattle.rule.specs.Situation.{asks, stepped}
+use Rattle.shims.specs.declared.Sides.{Sides}
 use Rattle.runs.specs.declared.Move.{Move}
 use Rattle.runs.specs.Bytes.{Judged, good, bad, judged, puts}
 
@@ -20,8 +21,12 @@ moved_by at (Step.Plain next) = Ok (Move.Plain next)
 moved_by at (Step.Fenced g next) = Ok (Move.Fenced g next)
 moved_by at Step.Refused = Err (Refusal.NoFenceWillDo at)
 
+-- what an access of this kind does
+abbrev pub accessed : Way → Model → Model → Situation → ℕ → Kind → Result Move Refusal
+accessed way up target s at k = moved_by at (stepped way up.ppo target s k)
+
 abbrev pub moved_as : Way → Model → Model → Situation → ℕ → Judged → Result Move Refusal
-moved_as way up target s at (good (Operation.Access k)) = moved_by at (stepped way up.ppo target s k)
+moved_as way up target s at (good (Operation.Access k)) = accessed way up target s at k
 moved_as way up target s at (good (Operation.Fence f)) = Ok (Move.Silent (asks (fence_table up f) s))
 moved_as way up target s at (bad why) = Err why
 
@@ -48,6 +53,6 @@ moves way up target s at [] = puts []
 moves way up target s at (b ∷ bytes) =
     moves_on b (λ (next : Situation). moves way up target next (suc at) bytes) (moved way up target s at b)
 
--- what is said of a way and two models, of a shim and the fences of its two sides
-abbrev pub for_shim : {A : Type 0} → (Way → Model → Model → A) → Shim → List ℕ → List ℕ → A
-for_shim of shim fences targets = of shim.way (upstream_of shim fences) (target_of shim targets)
+-- what is said of a way and two models, of the two sides as they are lent
+abbrev pub for_sides : {A : Type 0} → (Way → Model → Model → A) → Sides → A
+for_sides of s = of s.shim.way (upstream_of s.shim s.fences.now) (target_of s.shim s.targets.now)
