@@ -127,8 +127,7 @@ fn run_stream<'a>(sides: Sides<'a>, stream: &'a [u8], buffer: &mut [u8]) -> Resu
 // The run of a stream within its limit. It owns the buffer that the run is laid into, so that a refusal writes nothing.
 fn run_within<'a>(sides: Sides<'a>, stream: &'a [u8], out: &mut [u8]) -> Answer
     requires { length stream.now ≤ 4096 }
-    ensures { Delivers (for_sides direct sides.entry stream.now)
-        out.old result out.new }
+    ensures { Delivers (for_sides direct sides.entry stream.now) out.old result out.new }
 {
     let mut buffer = [0u8; 8192];
     let written = run_stream(sides, stream, &mut buffer)?;
