@@ -47,8 +47,8 @@ pub fn follow(text: &[u8], at: usize, pattern: &[u8]) -> Step
 fn name_bytes(text: &[u8], at: usize) -> usize
     ensures { result ≡ name_run 16 (drop at text.now) }
 {
-    text.iter()
-        .skip(at)
+    text[at.min(text.len())..]
+        .iter()
         .take(16)
         .take_while(|b| ground::is_name_byte(**b))
         .count()
