@@ -14,7 +14,6 @@ use lib.ListN.{length}
 use Rattle.ground.specs.Bytes.{at}
 use Rattle.ground.proofs.Truths.{differ, true_false}
 use Rattle.answers.specs.declared.Refusal.{Refusal}
-use Rattle.answers.specs.Answer.{Verdict}
 use Rattle.places.specs.declared.Place.{Place}
 use Rattle.blocks.specs.Checksum.{two_bytes}
 use Rattle.places.specs.Layout.{limit, blocks_for, stands_at, position}

@@ -1,8 +1,10 @@
 // What is wrong with an image, and where.
-ghost use Rattle.std.specs.Prelude.{◌<◌, ◌≤◌, ◌≡◌, length, None};
+ghost use Rattle.std.specs.Prelude.{◌-◌, ◌<◌, ◌≤◌, ◌≡◌, length, None};
+ghost use Rattle.ground.specs.Lowest.{lowest};
 ghost use Rattle.places.specs.Layout.{limit};
-ghost use Rattle.barred.specs.Barred.{target_fences_of, barred};
+ghost use Rattle.barred.specs.Barred.{barred};
 ghost use Rattle.layout.specs.Verdict.{block_count, lowest_barred, stages, verdict_of};
+ghost use Rattle.layout.specs.inner.Zeros.{ZerosKept};
 
 use answers::{Refusal, Verdict};
 
@@ -17,24 +19,40 @@ fn block_count(image: &[u8]) -> usize
     image.len().div_ceil(512).max(1)
 }
 
-// Whether the value of a byte is barred. Most bytes are zeros behind the header, and such a byte is barred nowhere if there is a target fence.
-#[tactic(auto, using(crate::proofs::Zeros::zero_kept))]
-fn is_barred(image: &[u8], targets: usize, i: usize) -> bool
-    requires { targets ≡ target_fences_of image.now }
-    ensures { result ≡ barred image.now i }
+// How many bytes in front are looked at, zeros too: a zero behind the header is barred nowhere if there is a target fence.
+fn header_end(image: &[u8]) -> usize
+    ensures { (result ≤ length image.now) × ZerosKept image.now result }
 {
-    if 39 <= i && 0 < targets && ground::byte_at(image, i) == 0 {
-        false
+    if ground::number_at(image, 6) == 0 {
+        image.len()
     } else {
-        barred::is_barred(image, i)
+        image.len().min(39)
     }
+}
+
+// The lowest barred byte of so many in front.
+fn barred_in_front(image: &[u8], count: usize) -> Option<usize>
+    ensures { result ≡ lowest (barred image.now) 0 count }
+{
+    (0..count).find(|i| barred::is_barred(image, *i))
+}
+
+// The lowest barred byte from one on, behind which zeros are passed over: most bytes of an image are.
+fn barred_behind(image: &[u8], from: usize) -> Option<usize>
+    requires { (from ≤ length image.now) × ZerosKept image.now from }
+    ensures { result ≡ lowest (barred image.now) from (length image.now - from) }
+{
+    (from..image.len()).find(|i| image[*i] != 0 && barred::is_barred(image, *i))
 }
 
 fn lowest_barred(image: &[u8]) -> Option<usize>
     ensures { result ≡ lowest_barred image.now }
 {
-    let targets = ground::number_at(image, 6);
-    (0..image.len()).find(|i| is_barred(image, targets, *i))
+    let end = header_end(image);
+    if let Some(i) = barred_in_front(image, end) {
+        return Some(i);
+    }
+    barred_behind(image, end)
 }
 
 // What is wrong with an image whose blocks are right.

@@ -1,19 +1,12 @@
--- `lowest_barred` meets its contract: the first byte that is found barred is the lowest. Assumes nothing.
-use mathlib.Core.Path.{refl, sym, ◌∙◌}
-use lib.ListN.{length}
-use native.Mathlib.Omega.{arith}
-use Rattle.std.proofs.Common.{rules, tests}
-use Rattle.std.proofs.lemmas.Iterator.{YieldsList-from_range}
-use Rattle.std.proofs.lemmas.Iterator.Search.{find_from_yields_List}
-use Rattle.std.proofs.lemmas.Iterator.Adapters.{option_map_id}
-use Rattle.ground.proofs.Lowest.{find_lowest}
-use Rattle.barred.specs.Barred.{barred}
+-- `lowest_barred` meets its contract: the lowest in front, else the lowest behind. Assumes nothing.
+use mathlib.Core.Path.{sym, ◌∙◌}
+use Rattle.layout.proofs.Zeros.{found_in_front, found_behind}
 use Rattle.layout.proofs.verdict.lowest_barred.Goals as goal
+
+pub returns-in-Some : goal.returns-in-Some
+returns-in-Some c = found_in_front c.args.image.now _ _ c.header_end-end.ensures.0 (sym c.in-Some.is ∙ c.barred_in_front.ensures)
 
 pub returns : goal.returns
 returns c =
-    let image = c.args.image.now in
-    sym (option_map_id _)
-    ∙ find_from_yields_List (barred image) _ _ _ c.find.ensures.ran (YieldsList-from_range 0 (length image) (length image) refl (omega arith))
-    (λ x b q k. search (rules, tests))
-    ∙ find_lowest (barred image) 0 (length image)
+    c.barred_behind.ensures
+    ∙ found_behind c.args.image.now _ c.header_end-end.ensures.0 (sym c.in_default.is ∙ c.barred_in_front.ensures)
