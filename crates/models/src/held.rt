@@ -1,8 +1,9 @@
-// How a model is held: the makers of names and of models without fences.
+// How a model is held: the makers of names, of models without fences and of refused readings.
 ghost use Rattle.std.specs.Prelude.{◌≡◌, take};
-ghost use Rattle.models.specs.Told.{filled, bare};
+ghost use Rattle.models.specs.Told.{filled, bare, refusing};
 
-use crate::model::{Model, Name};
+use crate::model::{Model, Name, Reading};
+use answers::Refusal;
 use tables::table::Table;
 
 // The first bytes of a text as a name: at most sixteen.
@@ -27,4 +28,11 @@ pub fn bare_model(name: Name, ppo: Table) -> Model
         name,
         names: [zeros; 16],
     }
+}
+
+// The refused reading.
+pub fn refuse(why: Refusal) -> Reading
+    ensures { result ≡ refusing why }
+{
+    Err(why)
 }

@@ -60,7 +60,7 @@ pub loop-number-preserved : goal.loop-number-preserved
 loop-number-preserved c =
     let l = c.loop-number in
     let t = c.args.text.now in
-    let word = word_found (node_line l.number) t l.here (node_word l.number) c.follow_decimal-in-loop-number.ensures c.in_ok-here-2.was in (
+    let word = word_found (node_line l.number) t l.here (node_word l.number) c.follow_decimal-in-loop-number.ensures (search rules) in (
       omega arith,
       omega arith,
       (λ r h. l.invariant.2 r (more t l.here l.number c.loop-number-test.true
