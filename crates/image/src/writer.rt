@@ -31,14 +31,14 @@ fn half(i: usize, number: usize) -> u8
     }
 }
 
-// Unused states are zero.
+// Unused states are zero. That is asked first, since most of an image's states are unused.
 #[tactic(auto, unfolding(crate::specs::Image::used))]
-fn used(h: Header, state: usize, value: u16) -> u8
-    requires { value < 256 }
-    ensures { result ≡ used h state value }
+fn used(h: &Header, rows: &[u16], state: usize, letter: usize) -> u16
+    requires { (state < 2 ^ 32) × (letter < 2 ^ 32) }
+    ensures { result ≡ used h.now state (word rows.now state letter) }
 {
     if state < usize::from(h.states) {
-        value as u8
+        word_at(rows, state, letter)
     } else {
         0
     }
@@ -46,9 +46,9 @@ fn used(h: Header, state: usize, value: u16) -> u8
 
 // What is written at byte i, the checks aside.
 #[tactic(auto, unfolding(crate::specs::Image::value_at))]
-fn value_at(h: Header, rows: &[u16], i: usize) -> u8
+fn value_at(h: &Header, rows: &[u16], i: usize) -> u8
     requires { i < 2 ^ 24 }
-    ensures { result ≡ value_at h rows.now i }
+    ensures { result ≡ value_at h.now rows.now i }
 {
     match places::stands_at(i) {
         Place::Number => half(i, i / 512),
@@ -59,19 +59,19 @@ fn value_at(h: Header, rows: &[u16], i: usize) -> u8
         Place::TargetFences => h.targets,
         Place::UpstreamName(k) => h.upstream[k],
         Place::TargetName(k) => h.target[k],
-        Place::Fence(state, a) => used(h, state, word_at(rows, state, a) / 256),
-        Place::Next(state, a) => used(h, state, word_at(rows, state, a) % 256),
-        Place::FenceNext(state, f) => used(h, state, word_at(rows, state, ACCESSES + f) % 256),
+        Place::Fence(state, a) => (used(h, rows, state, a) / 256) as u8,
+        Place::Next(state, a) => (used(h, rows, state, a) % 256) as u8,
+        Place::FenceNext(state, f) => (used(h, rows, state, ACCESSES + f) % 256) as u8,
         Place::Nothing | Place::Check => 0,
     }
 }
 
 // Fills block b but for its check. The blocks below it are full.
 #[tactic(auto, using(crate::proofs::Sealing::contents_next))]
-fn fill_contents(h: Header, rows: &[u16], image: &mut [u8], b: usize)
+fn fill_contents(h: &Header, rows: &[u16], image: &mut [u8], b: usize)
     requires b_bound { (b < 14) × (length image.old ≡ limit) }
-    requires front { Front (byte_at h rows.now) (512 * b) image.old }
-    ensures { Front (byte_at h rows.now) (512 * b + 510) image.new }
+    requires front { Front (byte_at h.now rows.now) (512 * b) image.old }
+    ensures { Front (byte_at h.now rows.now) (512 * b + 510) image.new }
 {
     for p in 0..510 {
         image[512 * b + p] = value_at(h, rows, 512 * b + p);
@@ -88,19 +88,19 @@ fn seal(image: &mut [u8], b: usize)
     image[512 * b + 511] = (check % 256) as u8;
 }
 
-fn fill_block(h: Header, rows: &[u16], image: &mut [u8], b: usize)
+fn fill_block(h: &Header, rows: &[u16], image: &mut [u8], b: usize)
     requires b_bound { (b < 14) × (length image.old ≡ limit) }
-    requires front { Front (byte_at h rows.now) (512 * b) image.old }
-    ensures { Front (byte_at h rows.now) (512 * b + 512) image.new }
+    requires front { Front (byte_at h.now rows.now) (512 * b) image.old }
+    ensures { Front (byte_at h.now rows.now) (512 * b + 512) image.new }
 {
     fill_contents(h, rows, image, b);
     seal(image, b);
 }
 
 // Fills as many blocks as the states want.
-fn fill(h: Header, rows: &[u16], image: &mut [u8])
+fn fill(h: &Header, rows: &[u16], image: &mut [u8])
     requires { length image.old ≡ limit }
-    ensures { Front (byte_at h rows.now) (size_of h) image.new }
+    ensures { Front (byte_at h.now rows.now) (size_of h.now) image.new }
 {
     let count = places::blocks_for(h.states);
     for b in 0..count {
@@ -113,7 +113,7 @@ pub fn write(h: Header, rows: &[u16], out: &mut [u8]) -> Answer
     ensures { Delivers (gives (image_of h rows.now) 0 0) out.old result out.new }
 {
     let mut image = [0u8; LIMIT];
-    fill(h, rows, &mut image);
+    fill(&h, rows, &mut image);
     let n = 512 * places::blocks_for(h.states);
     answers::write_out(&image[..n], 0, 0, out)
 }

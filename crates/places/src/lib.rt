@@ -2,7 +2,7 @@
 #![tactic(auto)]
 
 ghost use Rattle.std.specs.Prelude.{◌^◌, ◌<◌, ◌≤◌, ◌≡◌};
-ghost use Rattle.places.specs.Layout.{limit, blocks_for, header_place, entry_place, content_place, stands_at, entry_start};
+ghost use Rattle.places.specs.Layout.{limit, blocks_for, header_place, content_place, stands_at, entry_start};
 
 // A name's byte is counted from the name's first; an access or an upstream fence is its number.
 #[derive(Clone, Copy)]
@@ -41,18 +41,8 @@ fn header_place(p: usize) -> Place
     }
 }
 
-fn entry_place(state: usize, o: usize) -> Place
-    ensures { result ≡ entry_place 1 state o }
-{
-    if 8 <= o {
-        Place::FenceNext(state, o - 8)
-    } else if o % 2 == 0 {
-        Place::Fence(state, o / 2)
-    } else {
-        Place::Next(state, o / 2)
-    }
-}
-
+// The bytes of an entry stand in the same match: as a function of its own its three places came out as one by arithmetic, and whoever asked what
+// stands here had to take that apart again, byte by byte.
 fn content_place(b: usize, p: usize) -> Place
     requires { (b < 2 ^ 55) × (2 ≤ p) × (p < 506) }
     ensures { result ≡ content_place 1 b p }
@@ -60,10 +50,12 @@ fn content_place(b: usize, p: usize) -> Place
     if b == 0 {
         header_place(p)
     } else {
-        entry_place(
-            (b - 1) * STATES_TO_A_BLOCK + (p - 2) / ENTRY,
-            (p - 2) % ENTRY,
-        )
+        let state = (b - 1) * STATES_TO_A_BLOCK + (p - 2) / ENTRY;
+        match (p - 2) % ENTRY {
+            o @ 8.. => Place::FenceNext(state, o - 8),
+            o if o % 2 == 0 => Place::Fence(state, o / 2),
+            o => Place::Next(state, o / 2),
+        }
     }
 }
 
