@@ -15,7 +15,7 @@ use Rattle.answers.specs.Answer.{Answer, number_of, place_of}
 use Rattle.answers.specs.Given.{gives, refuses, Delivers, Answers}
 use Rattle.operations.specs.Alphabet.{letters_with, stride}
 use Rattle.rule.specs.declared.way.Way.{Way}
-use Rattle.printing.specs.Putting.{Put}
+use Rattle.printing.specs.Putting.{Put, Fronts}
 use Rattle.printing.proofs.Names.{unfilled_short}
 use Rattle.printing.proofs.Putting.{put_fronts}
 use Rattle.shims.specs.declared.Models.{Models}
@@ -113,13 +113,14 @@ listable_limited m x rows output fences u t l = record {
 pub listing_fronts : (m : Models) (x : Machine) (rows output : List ℕ) (fences : ℕ) {bytes before after : List ℕ} {at n : ℕ}
     → length m.upstream.name.bytes ≡ 16 → length m.target.name.bytes ≡ 16 → Listable x rows output fences → before ≡ bytes → at ≡ 0
     → Put before after at n (listing (made_listing m x rows output fences)) → 67261 ≤ length bytes
-    → take n after ≡ listing (made_listing m x rows output fences)
+    → Fronts after n (listing (made_listing m x rows output fences))
 listing_fronts m x rows output fences u t l same none p h =
     put_fronts same none p (omega (arith, listing-length _ (listable_limited m x rows output fences u t l)))
 
 -- and the line of a refusal on one with room for 53
 pub refused_fronts : (why : Refusal) {number place : ℕ} {bytes before after : List ℕ} {at n : ℕ} → number < 2 ^ 64 → place < 2 ^ 64
     → number ≡ number_of why → place ≡ place_of why → before ≡ bytes → at ≡ 0 → Put before after at n (refused_at number place) → 53 ≤ length bytes
-    → take n after ≡ refusal_line why
+    → Fronts after n (refusal_line why)
 refused_fronts why {number} {place} small near is at same none p h =
-    put_fronts same none p (omega (arith, refused-length number place (omega arith) (omega arith))) ∙ ap₂ refused_at is at
+    let line = put_fronts same none p (omega (arith, refused-length number place (omega arith) (omega arith))) in
+    record { inside = line.inside; count = line.count; bytes = line.bytes ∙ ap₂ refused_at is at }

@@ -5,9 +5,9 @@ use mathlib.Core.List.{List, [], ◌++◌, append_assoc, append-nil}
 use native.Mathlib.Decide.{dec_le}
 use native.Mathlib.Omega.{arith}
 use lib.ListN.{length, take, drop, length-append}
-use lib.Seq.{take-length, paste, length-paste, take-paste}
+use lib.Seq.{take-length, length-take-le, paste, length-paste, take-paste}
 use Rattle.printing.specs.Printing.{Prints}
-use Rattle.printing.specs.Putting.{Put}
+use Rattle.printing.specs.Putting.{Put, Fronts}
 use Rattle.printing.proofs.Copying.{placed_fits, placed_not, printed_fits, printed_not}
 
 -- a put is the least of such chains
@@ -78,6 +78,12 @@ put_then {a} {b} {c} {x} {y} {at} {r} {s} p q = record {
 
 -- a chain on a page with nothing on it, where there is room for its text: the text is all that is on the page
 pub put_fronts : {bytes before after text : List ℕ} {at r : ℕ} → before ≡ bytes → at ≡ 0 → Put before after at r text → length text ≤ length bytes
-    → take r after ≡ text
-put_fronts {before = before} {text = text} same none p l =
-    p.bytes (omega (arith, none, ap length same)) ∙ ap (λ (n : ℕ). take n before ++ text) none
+    → Fronts after r text
+put_fronts {before = before} {after = after} {text = text} {at = at} {r = r} same none p l =
+    let h : at + length text ≤ length before = omega (arith, none, ap length same) in
+    let inside : r ≤ length after = omega (arith, p.place h, p.size) in
+    record {
+      inside = inside;
+      count = sym (length-take-le r after inside);
+      bytes = p.bytes h ∙ ap (λ (n : ℕ). take n before ++ text) none;
+    }

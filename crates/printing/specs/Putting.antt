@@ -9,6 +9,12 @@ pub record Put (before after : List ℕ) (at r : ℕ) (text : List ℕ) : Type 0
   pub bytes : at + length text ≤ length before → take r after ≡ take at before ++ text
   pub past : length before < at + length text → length before < r
 
--- the same of a page
+-- the first r bytes of a buffer are a text
+pub record Fronts (buffer : List ℕ) (r : ℕ) (text : List ℕ) : Type 0 where
+  pub inside : r ≤ length buffer
+  pub count : r ≡ length (take r buffer)
+  pub bytes : take r buffer ≡ text
+
+-- the same as `Put` of a page
 abbrev pub PutOn : Page → Page → List ℕ → Type 0
 PutOn before after text = Put before.bytes.now after.bytes.now before.at after.at text

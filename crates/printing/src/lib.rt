@@ -21,6 +21,16 @@ fn name_length(name: &[u8]) -> usize
     name.iter().position(|b| *b == 0).unwrap_or(name.len())
 }
 
+// Copies a text over as many bytes, byte by byte: by `copy_from_slice` the archive for C would want `memmove` from outside.
+fn copy(bytes: &mut [u8], text: &[u8])
+    requires { length bytes.old ≡ length text.now }
+    ensures { bytes.new ≡ text.now }
+{
+    for i in 0..text.len() {
+        bytes[i] = text[i];
+    }
+}
+
 impl<'a> Page<'a> {
     // A page with nothing on it.
     pub fn new(bytes: &'a mut [u8]) -> Page<'a>
@@ -48,7 +58,7 @@ impl<'a> Page<'a> {
             return;
         }
         let end = self.at + text.len();
-        self.bytes[self.at..end].copy_from_slice(text);
+        copy(&mut self.bytes[self.at..end], text);
         self.at = end;
     }
 

@@ -14,5 +14,5 @@ returns c =
     five-length a.a a.b a.c a.d a.e
     (omega (arith, f.a)) (omega (arith, f.b)) (omega (arith, f.c)) (omega (arith, f.d)) (omega (arith, f.e)) in
     let new = c.new-page.ensures in
-    let text = c.text.ensures ∙ put_fronts new.bytes_kept new.nothing_put c.put_five.ensures (omega (arith, few)) in
+    let text = c.text.ensures ∙ (put_fronts new.bytes_kept new.nothing_put c.put_five.ensures (omega (arith, few))).bytes in
     delivers_as (ap (λ (t : List ℕ). gives t 0 0) text) c.write_out.ensures

@@ -15,5 +15,5 @@ returns c =
     let new = c.new-page.ensures in
     let text =
     c.text.ensures
-    ∙ put_fronts new.bytes_kept new.nothing_put c.put_drawing.ensures (omega (arith, drawing_length a.h a.rows.now c.requires.0)) in
+    ∙ (put_fronts new.bytes_kept new.nothing_put c.put_drawing.ensures (omega (arith, drawing_length a.h a.rows.now c.requires.0))).bytes in
     delivers_as (ap (λ (t : List ℕ). gives t 0 0) text) c.write_out.ensures

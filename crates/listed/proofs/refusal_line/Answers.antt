@@ -13,6 +13,6 @@ returns c =
     let new = c.new-page.ensures in
     let line =
     c.text.ensures
-    ∙ refused_fronts c.args.why (omega arith) (omega arith) c.number.ensures c.place.ensures new.bytes_kept new.nothing_put
-    c.put_refusal.ensures (omega arith) in
+    ∙ (refused_fronts c.args.why (omega arith) (omega arith) c.number.ensures c.place.ensures new.bytes_kept new.nothing_put
+    c.put_refusal.ensures (omega arith)).bytes in
     delivers_as (ap (λ (t : List ℕ). gives t 0 0) line) c.write_out.ensures

@@ -18,6 +18,6 @@ returns c =
     let new = c.new-page.ensures in
     let text =
     c.text.ensures
-    ∙ listing_fronts a.models a.machine a.rows.now a.output.now a.fences first.1.1.0.1.0.1 second.1.1.0.1.0.1 c.requires
-    new.bytes_kept new.nothing_put c.put_listing.ensures (omega arith) in
+    ∙ (listing_fronts a.models a.machine a.rows.now a.output.now a.fences first.1.1.0.1.0.1 second.1.1.0.1.0.1 c.requires
+    new.bytes_kept new.nothing_put c.put_listing.ensures (omega arith)).bytes in
     delivers_as (ap (λ (t : List ℕ). gives t a.fences 0) text) c.write_out.ensures

@@ -14,5 +14,5 @@ returns c =
     let new = c.new-page.ensures in
     let text =
     c.text.ensures
-    ∙ put_fronts new.bytes_kept new.nothing_put c.put_model.ensures (omega (arith, held_short c.args.model _ c.well_formed.0)) in
+    ∙ (put_fronts new.bytes_kept new.nothing_put c.put_model.ensures (omega (arith, held_short c.args.model _ c.well_formed.0))).bytes in
     delivers_as (ap (λ (t : List ℕ). gives t 0 0) text) c.write_out.ensures

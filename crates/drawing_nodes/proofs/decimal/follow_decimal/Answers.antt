@@ -21,7 +21,7 @@ use Rattle.drawing_nodes.proofs.decimal.follow_decimal.Goals as goal
 digits : {bytes after : List ℕ} {at n : ℕ} (number : ℕ) → number < 2 ^ 64 → bytes ≡ replicate 20 0 → at ≡ 0
     → Prints bytes after at n (decimal number) → take n after ≡ decimal number
 digits number small same none p =
-    put_fronts same none (prints_put p) (omega (arith, length_digits 19 number (lt_trans small (lit< tt))))
+    (put_fronts same none (prints_put p) (omega (arith, length_digits 19 number (lt_trans small (lit< tt))))).bytes
 
 pub returns-in_err-past : goal.returns-in_err-past
 returns-in_err-past c =

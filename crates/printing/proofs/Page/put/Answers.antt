@@ -22,4 +22,4 @@ returns-clause-prints c =
     let text = c.args.text.now in
     let k : ℕ = page.at + length text - page.at in
     prints_fits page.bytes.now text page.at (omega arith)
-    (put_mid-paste page.at k page.bytes.now c.copy_from_slice.new.self text (length text) c.copy_from_slice.ensures.after (omega arith) refl)
+    (put_mid-paste page.at k page.bytes.now c.copy.new.bytes text (length text) c.copy.ensures (omega arith) refl)
