@@ -55,11 +55,14 @@ impl Strength {
     pub fn letter(self) -> u8
         ensures { result ≡ letter self.level }
     {
-        match self.level {
-            0 => b'-',
-            1 => b'N',
-            2 => b'M',
-            _ => b'S',
+        if self.at_least(Strength::SINGLE) {
+            b'S'
+        } else if self.at_least(Strength::MULTIPLE) {
+            b'M'
+        } else if self.at_least(Strength::NON_ATOMIC) {
+            b'N'
+        } else {
+            b'-'
         }
     }
 }
