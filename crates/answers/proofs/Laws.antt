@@ -6,7 +6,7 @@ use mathlib.Core.List.{List, ◌++◌}
 use borrow.Author.Tests.{le-leb, lt-leb}
 use lib.ListN.{length, drop}
 use Rattle.answers.specs.declared.Refusal.{Refusal}
-use Rattle.answers.specs.Answer.{Answer, wrote}
+use Rattle.answers.specs.Answer.{wrote}
 use Rattle.answers.specs.Buffer.{buffer_with, answer_with}
 
 pub buffer_fits : (text out : List ℕ) → length text ≤ length out → buffer_with text out ≡ text ++ drop (length text) out

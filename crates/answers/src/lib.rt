@@ -100,7 +100,10 @@ pub fn write_out(text: &[u8], fences: usize, state: usize, out: &mut [u8]) -> An
     if out.len() < text.len() {
         return Err(Refusal::BufferTooSmall);
     }
-    out[..text.len()].copy_from_slice(text);
+    // Byte by byte: by `copy_from_slice` the archive for C would want `memmove` from outside.
+    for i in 0..text.len() {
+        out[i] = text[i];
+    }
     Ok(Done {
         written: text.len(),
         fences,

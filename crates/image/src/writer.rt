@@ -31,7 +31,7 @@ fn half(i: usize, number: usize) -> u8
     }
 }
 
-// Unused states are zero. That is asked first, since most of an image's states are unused.
+// Unused states are zero. That is asked first, before the word is looked up: this is called for each byte of a state's entry.
 #[tactic(auto, unfolding(crate::specs::Image::used))]
 fn used(h: &Header, rows: &[u16], state: usize, letter: usize) -> u16
     requires { (state < 2 ^ 32) × (letter < 2 ^ 32) }

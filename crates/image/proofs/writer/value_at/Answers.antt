@@ -1,11 +1,11 @@
--- `value_at` meets its contract: what is asked of its parts is as the place stands. Assumes nothing.
+-- `value_at` meets its contract: what is asked of its parts is as the place stands, and of a used word it takes a half. Assumes nothing.
 use Rattle.std.proofs.Common.{ℕ, ◌/◌, ◌%◌, ◌≡◌, Bool, true, false, cond, ltb, refl, ap, ◌∙◌, arith}
 use Rattle.places.proofs.Standing.{stands_as}
 use Rattle.image.specs.declared.machine.Header.{Header}
 use Rattle.image.specs.Image.{used, value_as, value_at}
 use Rattle.image.proofs.writer.value_at.Goals as goal
 
--- of a word that counts where its state is used, either byte does
+-- a half of what is used of a word is what is used of its half
 module _ (h : Header) (s v : ℕ) where
   used_high : used h s v / 256 ≡ used h s (v / 256)
   unfolding used
